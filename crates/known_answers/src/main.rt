@@ -1,0 +1,61 @@
+//! Computes values of the lower layers and compares them with known ones.
+//!
+//! It reads lines from standard input: a word that names a kind of value, what the value is computed from, and the
+//! value, with one space between two fields. It names each line that differs or can't be read by its number, counted
+//! from 1, and writes last how many lines passed and how many failed. The process ends with 0 where none failed and
+//! with 1 otherwise. No part of the product.
+#![tactic(auto)]
+
+mod fields;
+mod pad;
+
+use anyhow::{Context, Result, bail};
+use std::alloc::Global;
+use std::io::{self, BufRead, BufReader, BufWriter, Write};
+use std::process::ExitCode;
+
+/// Whether a line's value is the one that is computed. An error is a line that can't be read.
+fn passes(alloc: Global, line: &str) -> Result<bool> {
+    let fields = fields::split(alloc, line)?;
+    let (word, rest) = fields.split_first().context("an empty line")?;
+    match *word {
+        "pad" => pad::passes(alloc, rest),
+        _ => bail!("no such word: {word}"),
+    }
+}
+
+/// Says what is wrong with a line, if anything, and whether it passed.
+fn told<W: Write>(alloc: Global, out: &mut W, number: u64, line: &str) -> io::Result<bool> {
+    match passes(alloc, line) {
+        Ok(true) => return Ok(true),
+        Ok(false) => writeln!(out, "line {number} differs")?,
+        Err(error) => writeln!(out, "line {number}: {error}")?,
+    }
+    Ok(false)
+}
+
+fn run(rt: &HostRuntime) -> io::Result<bool> {
+    let alloc = rt.alloc();
+    let mut out = BufWriter::new(alloc, io::writer(rt))?;
+    let mut passed = 0u64;
+    let mut failed = 0u64;
+    for line in BufReader::new(alloc, rt.reader())?.lines(alloc) {
+        let number = passed.saturating_add(failed).saturating_add(1);
+        if told(alloc, &mut out, number, line?.as_str())? {
+            passed = passed.saturating_add(1);
+        } else {
+            failed = failed.saturating_add(1);
+        }
+    }
+    writeln!(out, "{passed} passed, {failed} failed")?;
+    out.flush()?;
+    Ok(failed == 0)
+}
+
+fn main(rt: HostRuntime) -> io::Result<ExitCode> {
+    Ok(if run(&rt)? {
+        ExitCode::SUCCESS
+    } else {
+        ExitCode::FAILURE
+    })
+}

@@ -1,0 +1,94 @@
+#!/usr/bin/env bash
+# Times the proved builds, against plain Rust in the same run where its sources and packages are there, and tells
+# where a limit is broken. Nothing here is needed to build or prove.
+#
+# usage: scripts/bench.sh            with PEER=FOLDER for the plain Rust program's sources
+# needs: rt, python3; for plain Rust cargo and Debian's librust-sha2-dev, librust-rand-chacha-dev,
+#        librust-rand-core-dev and librust-hex-dev
+#
+# To add a measure: a module in crates/bench with a line in its main, the same measure as words of the plain Rust
+# program, and a line 'compare' below.
+set -euo pipefail
+top=$(cd "$(dirname "$0")/.." && pwd)
+peer_sources=${PEER:-$top/../shared/peers/rust_baseline}
+work=$(mktemp -d)
+trap 'rm -rf "$work"' EXIT
+broken=0
+
+# Prints the least seconds of some runs of a command, and the greatest memory of them in MB. The command's output goes
+# to a file.
+measured() { # RUNS INPUT OUTPUT COMMAND..
+    python3 -c '
+import resource, subprocess, sys, time
+runs, source, target = int(sys.argv[1]), sys.argv[2], sys.argv[3]
+least = None
+for _ in range(runs):
+    with open(source, "rb") as i, open(target, "wb") as o:
+        start = time.perf_counter()
+        status = subprocess.run(sys.argv[4:], stdin=i, stdout=o, stderr=subprocess.DEVNULL).returncode
+        seconds = time.perf_counter() - start
+    if status != 0:
+        sys.exit(f"{sys.argv[4:]} ended with {status}")
+    least = seconds if least is None else min(least, seconds)
+print("%.4f %d" % (least, resource.getrusage(resource.RUSAGE_CHILDREN).ru_maxrss // 1024))' "$@"
+}
+
+# Whether a number is at most another.
+at_most() { python3 -c 'import sys; sys.exit(not float(sys.argv[1]) <= float(sys.argv[2]))' "$1" "$2"; }
+
+verdict() { # VALUE LIMIT
+    if at_most "$1" "$2"; then echo "at most $2: holds"; else echo "at most $2: BROKEN"; fi
+}
+
+# Builds a program of the repository and prints its path.
+built() { # CRATE
+    (cd "$top/crates/$1" && rt run < /dev/null > "$work/build" 2>&1) || true
+    [ -x "$top/crates/$1/out/$1" ] || { cat "$work/build" >&2; exit 1; }
+    echo "$top/crates/$1/out/$1"
+}
+
+# Times one measure of both programs, compares what they print, and prints how many times as long ours takes.
+compare() { # NAME LIMIT OUR-WORDS PEER-WORDS
+    local ours theirs ratio
+    ours=$(measured 5 /dev/null "$work/ours" "$bench" $3)
+    if [ -z "$peer" ]; then
+        echo "$1: ${ours% *} s (no plain Rust to compare with)"
+        return
+    fi
+    theirs=$(measured 5 /dev/null "$work/theirs" "$peer" $4)
+    cmp -s "$work/ours" "$work/theirs" || { echo "$1: the two programs print different lines"; broken=1; return; }
+    ratio=$(python3 -c 'import sys; print("%.2f" % (float(sys.argv[1]) / float(sys.argv[2])))' "${ours% *}" "${theirs% *}")
+    echo "$1: ${ours% *} s, plain Rust ${theirs% *} s: $ratio times, $(verdict "$ratio" "$2")"
+    at_most "$ratio" "$2" || broken=1
+}
+
+peer=
+if [ ! -d "$peer_sources" ]; then
+    echo "plain Rust: skipped, no folder $peer_sources"
+else
+    cp -r "$peer_sources" "$work/peer"
+    if (cd "$work/peer" && ./build.sh > "$work/peer.log" 2>&1); then
+        peer=$work/peer/target/release/rust_baseline
+    else
+        echo "plain Rust: skipped, it can't be built here: $(tail -1 "$work/peer.log")"
+    fi
+fi
+bench=$(built bench)
+
+compare '512 pads of 65,536 bits, 20 times' 3 'pads 512 65536 20' 'pads 512 8192 20'
+
+# The greatest plain round: every other client says something, so that the script stays within its limit.
+if [ -d "$top/crates/dissent" ]; then
+    dissent=$(built dissent)
+    python3 -c '
+print("plain 512 16 65536", "00" * 32)
+for i in range(0, 512, 2):
+    print("say", i, ("%02x" % (i % 256)) * 8192)
+print("end")' > "$work/script"
+    read -r seconds memory <<< "$(measured 3 "$work/script" "$work/report" "$dissent" run)"
+    echo "dissent run, 512 clients, 16 servers, 65,536 bits: $seconds s, $(verdict "$seconds" 4); $memory MB, $(verdict "$memory" 400)"
+    at_most "$seconds" 4 && at_most "$memory" 400 || broken=1
+else
+    echo "dissent run: skipped, no crate dissent"
+fi
+exit $broken
