@@ -1,0 +1,37 @@
+-- The digests of the protocol: SHA-256 (FIPS 180-4, section 6.2) of a tag and what the tag stands for. Numbers have their high byte
+-- first.
+use Rattle.std.specs.Prelude.{ℕ, List, ◌++◌, take, codes}
+use Rattle.std.specs.Int.{w32, w64, to_be_bytes}
+use Rattle.sha2.specs.Sha256.{sha256}
+
+-- the digest of a tag and two pieces
+unfoldable pub tagged_digest : List ℕ → List ℕ → List ℕ → List ℕ
+tagged_digest tag a b = sha256 (tag ++ a ++ b)
+
+-- what binds client i and server j to the seed that they share
+unfoldable pub seed_commitment_of : ℕ → ℕ → List ℕ → List ℕ
+seed_commitment_of i j seed = sha256 (codes "dnseed" ++ to_be_bytes w32 i ++ to_be_bytes w32 j ++ seed)
+
+-- the digest of the ciphertext c, as bytes, of client i in round r
+unfoldable pub cipher_digest_of : ℕ → ℕ → List ℕ → List ℕ
+cipher_digest_of r i c = sha256 (codes "dnsub" ++ to_be_bytes w64 r ++ to_be_bytes w32 i ++ c)
+
+-- the digest of the server ciphertext s, as bytes, of server j in round r
+unfoldable pub server_digest_of : ℕ → ℕ → List ℕ → List ℕ
+server_digest_of r j s = sha256 (codes "dnsrv" ++ to_be_bytes w64 r ++ to_be_bytes w32 j ++ s)
+
+-- the key of a block's mask, from the block's mask seed
+unfoldable pub mask_key_of : List ℕ → List ℕ
+mask_key_of z = sha256 (codes "dnmask" ++ z)
+
+-- the check of a block, over all that follows the check
+unfoldable pub block_check_of : List ℕ → List ℕ
+block_check_of rest = take 8 (sha256 (codes "dnblock" ++ rest))
+
+-- the mask seed of the client with this mask secret in round r
+unfoldable pub mask_seed_of : List ℕ → ℕ → List ℕ
+mask_seed_of secret r = take 16 (sha256 (codes "dnmasks" ++ secret ++ to_be_bytes w64 r))
+
+-- the digest of a group, from its roster's bytes
+unfoldable pub group_digest_of : List ℕ → List ℕ
+group_digest_of roster = sha256 (codes "dngroup" ++ roster)

@@ -1,0 +1,10 @@
+//! The protocol's digests: SHA-256 (FIPS 180-4, section 6.2) of a tag and what the tag stands for, each as `specs/Digests.antt` has it.
+//! Numbers go in with their high byte first. No call takes memory.
+#![tactic(auto)]
+
+mod digests;
+
+pub use digests::{
+    block_check, cipher_digest, group_digest, mask_key, mask_seed, seed_commitment, server_digest,
+    tagged,
+};
