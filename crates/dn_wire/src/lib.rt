@@ -1,10 +1,23 @@
-//! The numbers of members, slots and rounds, and the limits that all crates share.
+//! What all formats are made of: the numbers of members, slots and rounds, the limits that all
+//! crates share, lists of bytes and of members, and the reading and writing of single fields.
+//! Numbers are big-endian. A reader is seen as a place and the bytes from that place on.
 #![tactic(auto)]
 
+mod bytes;
 mod ids;
 mod limits;
+mod members;
+mod reader;
+mod writing;
 
+pub use bytes::Bytes;
 pub use ids::{ClientId, Member, Round, ServerId, SignerId, SlotId};
 pub use limits::{
     MAX_BITS, MAX_CLIENTS, MAX_ROUND, MAX_SERVERS, MAX_SLOT_BYTES, MAX_TEXT, MIN_SLOT_BYTES,
 };
+pub use members::MemberList;
+pub use reader::{FieldFault, Reader};
+pub use writing::{put_bytes, put_u8, put_u16, put_u32, put_u64};
+
+#[cfg(test)]
+mod tests;

@@ -1,0 +1,6 @@
+pub mod Loop
+pub mod Laws
+pub mod FieldLaws
+pub mod ListLaws
+pub mod BitLaws
+pub mod RecordLaws
