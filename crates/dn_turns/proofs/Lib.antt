@@ -1,0 +1,7 @@
+pub mod Sums
+pub mod Logs
+pub mod Keeps
+pub mod Least
+pub mod Joined
+pub mod Made
+pub mod Own
