@@ -1,0 +1,3 @@
+pub mod DealingLemmas
+pub mod RosterLemmas
+pub mod OwnersLemmas

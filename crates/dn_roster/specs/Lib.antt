@@ -1,0 +1,4 @@
+pub mod Group
+pub mod Dealing
+pub mod Owners
+pub mod Roster
