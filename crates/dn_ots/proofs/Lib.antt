@@ -1,0 +1,5 @@
+pub mod ParameterLemmas
+pub mod BlockLemmas
+pub mod ChainLemmas
+pub mod DigitLemmas
+pub mod KeyLemmas

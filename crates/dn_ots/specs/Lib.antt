@@ -1,0 +1,4 @@
+pub mod Parameters
+pub mod Chain
+pub mod Digits
+pub mod Ots
