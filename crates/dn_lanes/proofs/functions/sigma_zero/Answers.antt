@@ -1,0 +1,6 @@
+use Rattle.std.proofs.Common.{refl}
+use Rattle.dn_lanes.proofs.functions.sigma_zero.Goals as goal
+
+pub returns : goal.returns
+returns c j h =
+    rw (c.xor-2.ensures j h, c.xor.ensures j h, c.rotr.ensures j h, c.rotr-2.ensures j h, c.rotr-3.ensures j h) refl
