@@ -1,0 +1,14 @@
+pub mod Sums
+pub mod Bits
+pub mod Least
+pub mod Keeps
+pub mod Merges
+pub mod Ranges
+pub mod Joins
+pub mod Joined
+pub mod Made
+pub mod Looked
+pub mod Stepped
+pub mod Collects
+pub mod Counted
+pub mod Histories

@@ -1,0 +1,7 @@
+pub mod Draws
+pub mod Rule
+pub mod Opening
+pub mod Pass
+pub mod Order
+pub mod Collected
+pub mod History
