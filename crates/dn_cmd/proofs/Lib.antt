@@ -1,0 +1,4 @@
+pub mod WindowLemmas
+pub mod PassLemmas
+pub mod RoundLemmas
+pub mod RunLemmas

@@ -1,0 +1,7 @@
+use Rattle.std.proofs.Common.{◌≡◌, List}
+use Rattle.dn_window.specs.Window.{clients_of}
+use Rattle.dn_cmd.proofs.PassLemmas.{HasPassed}
+use Rattle.dn_cmd.proofs.window.pass.Given as goal
+
+abbrev pub invariant-loop-tick : goal.invariant-loop-tick
+invariant-loop-tick l = HasPassed l.initial.window l.window l.tick

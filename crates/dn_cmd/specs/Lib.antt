@@ -1,0 +1,4 @@
+pub mod Window
+pub mod Round
+pub mod Command
+pub mod Run

@@ -1,0 +1,152 @@
+use crate::dissent;
+use dn_io::{Cause, MemSink, MemSource, Status, SureSink, SureSource};
+use std::alloc::{AllocError, Global};
+use std::sync::Wait;
+use std::test::Fail;
+use std::thread::Threads;
+
+const SEED: &str = "0000000000000000000000000000000000000000000000000000000000000000";
+
+fn words(alloc: Global, word: &str) -> Result<Vec<String>, AllocError> {
+    let mut words = Vec::new(alloc);
+    words.push(String::from_str(alloc, word)?)?;
+    Ok(words)
+}
+
+/// The status and the output of `run` on a script of a first line and further ones.
+fn answer<R: Threads + Wait + Sync>(
+    rt: &R,
+    alloc: Global,
+    first: &str,
+    more: &str,
+) -> Result<(Status, Vec<u8>), Fail> {
+    let text = format!(in alloc; "plain {first} {SEED}\n{more}")?;
+    let bytes = Vec::from_slice(alloc, text.as_bytes())?;
+    let mut input = SureSource::make(bytes, 7);
+    let mut output = SureSink::make(alloc, 1)?;
+    let status = dissent(rt, alloc, &words(alloc, "run")?, &mut input, &mut output);
+    Ok((status, Vec::from_slice(alloc, output.bytes())?))
+}
+
+/// The first line's numbers, the further lines, and what `run` writes.
+const SUMS: [(&str, &str, &str); 3] = [
+    (
+        "3 2 8",
+        "say 0 01\nsay 1 02\nend\n",
+        "dissent-plain 1\nc 0 09\nc 1 84\nc 2 04\ns 0 10\ns 1 13\nout 03\n",
+    ),
+    (
+        "1 1 8",
+        "end\n",
+        "dissent-plain 1\nc 0 1a\ns 0 00\nout 00\n",
+    ),
+    (
+        "1 1 9",
+        "say 0 ff80\nend\n",
+        "dissent-plain 1\nc 0 e500\ns 0 ff80\nout ff80\n",
+    ),
+];
+
+#[test]
+fn sums_are_written(rt: HostRuntime) -> Result<(), Fail> {
+    for (first, more, due) in SUMS {
+        let (status, output) = answer(&rt, rt.alloc(), first, more)?;
+        assert_eq!(rt; status, Status::Ok);
+        assert_eq!(rt; output.as_slice(), due.as_bytes());
+    }
+    Ok(())
+}
+
+/// The first line's numbers, the further lines, the first bad line and its cause.
+const FAULTS: [(&str, &str, u64, Cause); 5] = [
+    ("1 1 8", "say 0 01\nsay 0 01\nend\n", 3, Cause::Unbuilt),
+    ("1 1 9", "say 0 ff81\nend\n", 2, Cause::Unbuilt),
+    ("1 1 8", "say 0 FF\nend\n", 2, Cause::Unbuilt),
+    ("1 1 8", "say 00 ff\nend\n", 2, Cause::Unbuilt),
+    ("1 1 8", "say 0 ff\n", 3, Cause::Missing),
+];
+
+#[test]
+fn the_first_bad_line_is_told(rt: HostRuntime) -> Result<(), Fail> {
+    for (first, more, number, cause) in FAULTS {
+        let (status, output) = answer(&rt, rt.alloc(), first, more)?;
+        assert_eq!(rt; status, Status::BadLine { number, cause });
+        assert!(rt; output.is_empty());
+    }
+    Ok(())
+}
+
+/// The status of `run` on these bytes, which come in pieces of 65,536.
+fn status_of<R: Threads + Wait + Sync>(
+    rt: &R,
+    alloc: Global,
+    bytes: Vec<u8>,
+) -> Result<Status, Fail> {
+    let mut input = SureSource::make(bytes, 65_536);
+    let mut output = SureSink::make(alloc, 1)?;
+    Ok(dissent(rt, alloc, &words(alloc, "run")?, &mut input, &mut output))
+}
+
+#[test]
+fn no_text_and_too_long_a_text_are_told(rt: HostRuntime) -> Result<(), Fail> {
+    let alloc = rt.alloc();
+    assert_eq!(rt;
+        status_of(&rt, alloc, Vec::new(alloc))?,
+        Status::BadLine {
+            number: 1,
+            cause: Cause::Missing
+        }
+    );
+    assert_eq!(rt;
+        status_of(&rt, alloc, vec![in alloc; b'#'; 8_388_609]?)?,
+        Status::TooLong { limit: 8_388_608 }
+    );
+    Ok(())
+}
+
+#[test]
+fn other_words_are_refused(rt: HostRuntime) -> Result<(), Fail> {
+    let alloc = rt.alloc();
+    let mut input = SureSource::make(Vec::new(alloc), 1);
+    let mut output = SureSink::make(alloc, 1)?;
+    let none: [String; 0] = [];
+    assert_eq!(rt;
+        dissent(&rt, alloc, &none, &mut input, &mut output),
+        Status::Usage
+    );
+    assert_eq!(rt;
+        dissent(
+            &rt,
+            alloc,
+            &words(alloc, "verify")?,
+            &mut input,
+            &mut output
+        ),
+        Status::Usage
+    );
+    Ok(())
+}
+
+#[test]
+fn a_failed_read_is_told(rt: HostRuntime) -> Result<(), Fail> {
+    let alloc = rt.alloc();
+    let mut input = MemSource::make(Vec::new(alloc), 1, vec![in alloc; 0]?);
+    let mut output = MemSink::make(alloc, 4, vec![in alloc]?)?;
+    let status = dissent(&rt, alloc, &words(alloc, "run")?, &mut input, &mut output);
+    assert_eq!(rt; status, Status::ReadFault);
+    assert!(rt; output.bytes().is_empty());
+    Ok(())
+}
+
+#[test]
+fn a_failed_write_leaves_a_front(rt: HostRuntime) -> Result<(), Fail> {
+    let alloc = rt.alloc();
+    let text = format!(in alloc; "plain 1 1 8 {SEED}\nend\n")?;
+    let bytes = Vec::from_slice(alloc, text.as_bytes())?;
+    let mut input = MemSource::make(bytes, 50, vec![in alloc]?);
+    let mut output = MemSink::make(alloc, 4, vec![in alloc; 2]?)?;
+    let status = dissent(&rt, alloc, &words(alloc, "run")?, &mut input, &mut output);
+    assert_eq!(rt; status, Status::WriteFault);
+    assert_eq!(rt; output.bytes(), b"dissent-".as_slice());
+    Ok(())
+}

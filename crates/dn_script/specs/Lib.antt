@@ -1,0 +1,5 @@
+pub mod Plain
+pub mod Fields
+pub mod Reading
+pub mod Spelling
+pub mod FirstBad
