@@ -40,25 +40,35 @@ verdict() { # VALUE LIMIT
     if at_most "$1" "$2"; then echo "at most $2: holds"; else echo "at most $2: BROKEN"; fi
 }
 
-# Builds a program of the repository and prints its path.
+# The lesser of two numbers.
+least() { python3 -c 'import sys; print(min(sys.argv[1:], key=float))' "$@"; }
+
+# Proves and builds a program of the repository and prints its path. (Without words the program itself may end badly.)
 built() { # CRATE
+    (cd "$top/crates/$1" && rt check > "$work/build" 2>&1) || { tail -5 "$work/build" >&2; exit 1; }
     (cd "$top/crates/$1" && rt run < /dev/null > "$work/build" 2>&1) || true
-    [ -x "$top/crates/$1/out/$1" ] || { cat "$work/build" >&2; exit 1; }
+    [ -x "$top/crates/$1/out/$1" ] || { tail -5 "$work/build" >&2; exit 1; }
     echo "$top/crates/$1/out/$1"
 }
 
-# Times one measure of both programs, compares what they print, and prints how many times as long ours takes.
+# Times one measure of both programs in turn, compares what they print, and prints how many times as long ours takes.
 compare() { # NAME LIMIT OUR-WORDS PEER-WORDS
-    local ours theirs ratio
-    ours=$(measured 5 /dev/null "$work/ours" "$bench" $3)
+    local ours theirs ratio one
+    ours=1e9 theirs=1e9
+    for _ in 1 2 3 4 5 6 7; do
+        one=$(measured 1 /dev/null "$work/ours" "$bench" $3)
+        ours=$(least "$ours" "${one% *}")
+        [ -z "$peer" ] && continue
+        one=$(measured 1 /dev/null "$work/theirs" "$peer" $4)
+        theirs=$(least "$theirs" "${one% *}")
+        cmp -s "$work/ours" "$work/theirs" || { echo "$1: the two programs print different lines"; broken=1; return; }
+    done
     if [ -z "$peer" ]; then
-        echo "$1: ${ours% *} s (no plain Rust to compare with)"
+        echo "$1: $ours s (no plain Rust to compare with)"
         return
     fi
-    theirs=$(measured 5 /dev/null "$work/theirs" "$peer" $4)
-    cmp -s "$work/ours" "$work/theirs" || { echo "$1: the two programs print different lines"; broken=1; return; }
-    ratio=$(python3 -c 'import sys; print("%.2f" % (float(sys.argv[1]) / float(sys.argv[2])))' "${ours% *}" "${theirs% *}")
-    echo "$1: ${ours% *} s, plain Rust ${theirs% *} s: $ratio times, $(verdict "$ratio" "$2")"
+    ratio=$(python3 -c 'import sys; print("%.2f" % (float(sys.argv[1]) / float(sys.argv[2])))' "$ours" "$theirs")
+    echo "$1: $ours s, plain Rust $theirs s: $ratio times, $(verdict "$ratio" "$2")"
     at_most "$ratio" "$2" || broken=1
 }
 
