@@ -13,20 +13,37 @@ use Rattle.dn_lms.specs.Tree.{node, root, inner_hash, leaf_hash, path_node, sibl
 use Rattle.dn_lms.specs.Filled.{StandsAt, HasAbove, HasLeaves, HasTree}
 use Rattle.dn_lms.specs.Laws.{sizes, leaf_node, sibling_even, sibling_odd, half}
 
--- one leaf more
-pub leaves_more : (key : Key) (tree : List (List ℕ)) (k x : List ℕ) (q : ℕ) → length tree ≡ 2 * leaf_count key → q < leaf_count key
-    → k ≡ ots_public key.ots key.id q key.seed → x ≡ leaf_hash key.id (leaf_count key + q) k
-    → ((i : ℕ) → i < q → get_or tree (leaf_count key + i) [] ≡ node key 0 (leaf_count key + i))
-    → (i : ℕ) → i < q + 1 → get_or (set tree (leaf_count key + q) x) (leaf_count key + i) [] ≡ node key 0 (leaf_count key + i)
-leaves_more key tree k x q long lt ek ex before i below =
+-- a value written at place r + k, with those written before it
+pub written_more : (tree : List (List ℕ)) (f : ℕ → List ℕ) (x : List ℕ) (r k : ℕ) → r + k < length tree → x ≡ f k
+    → ((i : ℕ) → i < k → get_or tree (r + i) [] ≡ f i) → (i : ℕ) → i < k + 1 → get_or (set tree (r + k) x) (r + i) [] ≡ f i
+written_more tree f x r k lt e before i below =
     ⊎_elim
-    (λ (less : i < q).
-    let other : leaf_count key + i ≢ leaf_count key + q = omega arith in
-    get_or-set_other tree (leaf_count key + q) (leaf_count key + i) x [] other ∙ before i less)
-    (λ (last : q ≤ i).
-    let same : i ≡ q = omega arith in
-    rw same (get_or-set_same tree (leaf_count key + q) x [] (omega arith) ∙ ex ∙ ap (leaf_hash key.id (leaf_count key + q)) ek ∙ leaf_node key q))
-    (cases_lt i q)
+    (λ (less : i < k).
+    let other : r + i ≢ r + k = omega arith in
+    get_or-set_other tree (r + k) (r + i) x [] other ∙ before i less)
+    (λ (last : k ≤ i).
+    let same : i ≡ k = omega arith in
+    rw same (get_or-set_same tree (r + k) x [] lt ∙ e))
+    (cases_lt i k)
+
+-- four leaves more
+pub leaves_more : (key : Key) (tree now keys : List (List ℕ)) (n : ℕ)
+    → ((k : ℕ) → k < 4 → get_or keys k [] ≡ ots_public key.ots key.id (4 * n + k) key.seed)
+    → ((k : ℕ) → k < 4 → get_or now (leaf_count key + 4 * n + k) [] ≡ leaf_hash key.id (leaf_count key + 4 * n + k) (get_or keys k []))
+    → ((i : ℕ) → i < leaf_count key + 4 * n → get_or now i [] ≡ get_or tree i [])
+    → ((i : ℕ) → i < 4 * n → get_or tree (leaf_count key + i) [] ≡ node key 0 (leaf_count key + i))
+    → (i : ℕ) → i < 4 * (n + 1) → get_or now (leaf_count key + i) [] ≡ node key 0 (leaf_count key + i)
+leaves_more key tree now keys n made written kept before i below =
+    ⊎_elim
+    (λ (less : i < 4 * n). kept (leaf_count key + i) (omega arith) ∙ before i less)
+    (λ (here : 4 * n ≤ i).
+    let k = i - 4 * n in
+    let lane : k < 4 = omega arith in
+    let leaf : 4 * n + k ≡ i = omega arith in
+    let place : leaf_count key + 4 * n + k ≡ leaf_count key + i = omega arith in
+    let key_of_lane = rw leaf at (made k lane) in
+    (rw place at (written k lane)) ∙ ap (leaf_hash key.id (leaf_count key + i)) key_of_lane ∙ leaf_node key i)
+    (cases_lt i (4 * n))
 
 -- what stands among the leaves is a leaf
 leaf_level : (h t r : ℕ) → StandsAt h t r → 2 ^ h ≤ r → t ≡ 0

@@ -33,13 +33,14 @@ pub record Sizes (code : ℕ) : Type 0 where
   pub high : height code ≤ 15
   pub some : 2 ≤ leaves_of code
   pub few : leaves_of code ≤ 32768
+  pub fours : leaves_of code % 4 ≡ 0
 
 pub sizes : (code : ℕ) → IsLms code → Sizes code
 unfolding height leaves_of
 sizes = by_lms Sizes
-    (record { low = lit< tt; high = lit≤ tt; some = lit≤ tt; few = lit≤ tt })
-    (record { low = lit< tt; high = lit≤ tt; some = lit≤ tt; few = lit≤ tt })
-    (record { low = lit< tt; high = lit≤ tt; some = lit≤ tt; few = lit≤ tt })
+    (record { low = lit< tt; high = lit≤ tt; some = lit≤ tt; few = lit≤ tt; fours = refl })
+    (record { low = lit< tt; high = lit≤ tt; some = lit≤ tt; few = lit≤ tt; fours = refl })
+    (record { low = lit< tt; high = lit≤ tt; some = lit≤ tt; few = lit≤ tt; fours = refl })
 
 -- ---- from a leaf to the root
 

@@ -3,12 +3,12 @@
 ghost use Rattle.std.specs.Prelude.{◌≡◌, ℕ, ◌+◌, ◌-◌, ◌*◌, ◌/◌, ◌^◌, ◌<◌, ◌≤◌, ◌++◌, [], length, slice_index_or, IfOk, OnOk};
 ghost use Rattle.dn_ots.specs.Ots.{joined};
 ghost use Rattle.dn_lms.specs.Key.{IsKey, IsLms, Key, leaves_of, height};
-ghost use Rattle.dn_lms.specs.Tree.{node, path_node};
+ghost use Rattle.dn_lms.specs.Tree.{leaf_hash, path_node};
 ghost use Rattle.dn_lms.specs.Filled.{HasLeaves, HasTree};
 
 use crate::nodes::{height_of, inner_hash, leaf_hash, sibling};
 use dn_memory::NoMemory;
-use dn_ots::{Params, ots_public};
+use dn_ots::{Params, ots_public_four};
 use std::alloc::Global;
 
 /// The number of leaves of a type code.
@@ -19,25 +19,29 @@ pub(crate) fn leaves_of(lms: u32) -> u32
     1 << height_of(lms)
 }
 
-/// Fills the last level.
-fn fill_leaves(
-    alloc: Global,
-    tree: &mut [[u8; 32]],
-    lms: u32,
-    params: Params,
-    id: &[u8; 16],
-    seed: &[u8; 32],
-) -> Result<(), NoMemory>
+/// Writes the four leaves from node r on, by their one-time public keys.
+fn fill_four(tree: &mut [[u8; 32]], id: &[u8; 16], r: u32, keys: &[[u8; 32]; 4])
+    requires few { r < 2 ^ 31 }
+    requires within { r + 4 ≤ length tree.old }
+    ensures written { (k : ℕ) → k < 4 → slice_index_or tree.new (r + k) [] ≡ leaf_hash id.now (r + k) (slice_index_or keys.now k []) }
+    ensures kept { (i : ℕ) → i < r → slice_index_or tree.new i [] ≡ slice_index_or tree.old i [] }
+{
+    'lanes: for k in 0..4u32 {
+        tree[(r + k) as usize] = leaf_hash(id, r + k, &keys[k as usize]);
+    }
+}
+
+/// Fills the last level, four leaves at a time.
+fn fill_leaves(tree: &mut [[u8; 32]], lms: u32, params: Params, id: &[u8; 16], seed: &[u8; 32])
     requires known { IsLms lms }
     requires size { length tree.old ≡ 2 * leaves_of lms }
-    ensures { OnOk result (HasLeaves (record { lms = lms; ots = params.code; id = id.now; seed = seed.now }) tree.new) }
+    ensures { HasLeaves (record { lms = lms; ots = params.code; id = id.now; seed = seed.now }) tree.new }
 {
     let count = leaves_of(lms);
-    'leaves: for q in 0..count {
-        let key = ots_public(alloc, params, id, q, seed)?;
-        tree[(count + q) as usize] = leaf_hash(id, count + q, &key);
+    'fours: for four in 0..count / 4 {
+        let keys = ots_public_four(params, id, 4 * four, seed);
+        fill_four(tree, id, count + 4 * four, &keys);
     }
-    Ok(())
 }
 
 /// Fills the other levels, from the last node to the root.
@@ -66,7 +70,7 @@ pub(crate) fn tree_of(
     ensures { IfOk result (λ tree. HasTree (record { lms = lms; ots = params.code; id = id.now; seed = seed.now }) tree.items) }
 {
     let mut tree = vec![in alloc; [0; 32]; 2 * leaves_of(lms) as usize]?;
-    fill_leaves(alloc, &mut tree, lms, params, id, seed)?;
+    fill_leaves(&mut tree, lms, params, id, seed);
     fill_inner(&mut tree, id);
     Ok(tree)
 }

@@ -1,6 +1,6 @@
 -- A part put into a block.
-use Rattle.std.proofs.Common.{◌≡◌, ℕ, ◌+◌, ◌<◌, ◌≤◌, suc, List, [], ◌∷◌, ◌++◌, length, take, drop, refl, sym, ap, ◌∙◌, arith, length-append, add-one}
-use Rattle.std.proofs.lemmas.List.{take_at, drop_at, take-take, take-append-le, drop-append-le, drop_all, append-nil, append_assoc, length-take-le, length-drop, set_split, length-set}
+use Rattle.std.proofs.Common.{◌≡◌, ℕ, ◌+◌, ◌<◌, ◌≤◌, zero, suc, List, [], ◌∷◌, ◌++◌, length, take, drop, refl, sym, ap, ◌∙◌, arith, length-append, add-one}
+use Rattle.std.proofs.lemmas.List.{take_at, drop_at, take-take, take-append-le, drop-append-le, drop_all, append-nil, append_assoc, length-take-le, length-drop, set_split, length-set, take-set-le}
 use Rattle.std.proofs.Math.ListN.{set}
 use Rattle.sha2.specs.Sha256.{sha256}
 use Rattle.dn_ots.specs.Chain.{chain_step}
@@ -34,3 +34,19 @@ drop_put a b part at e h all =
 pub step_of_block : (a : List ℕ) (j : ℕ) → length a ≡ 55 → sha256 (set a 22 j) ≡ chain_step (take 22 a) j (drop 23 a)
 unfolding chain_step
 step_of_block a j l = ap sha256 (set_split a 22 j (omega arith))
+
+-- a step taken on a copy: the head stays
+pub head_of_step : (a n r : List ℕ) (j : ℕ) → n ≡ set a 22 j → length a ≡ 55 → take 22 r ≡ take 22 n → take 22 r ≡ take 22 a
+head_of_step a n r j en l e = e ∙ ap (take 22) en ∙ take-set-le 22 a 22 j (omega arith)
+
+-- and the value is the step's
+pub value_of_step : (a n r v : List ℕ) (j : ℕ) → n ≡ set a 22 j → length a ≡ 55 → v ≡ sha256 n → drop 23 r ≡ v → drop 23 r ≡ chain_step (take 22 a) j (drop 23 a)
+value_of_step a n r v j en l ev e = e ∙ ev ∙ ap sha256 en ∙ step_of_block a j l
+
+-- what holds of each of four
+pub below_four : (P : ℕ → Type 0) → P 0 → P 1 → P 2 → P 3 → (k : ℕ) → k < 4 → P k
+below_four P a b c d zero h = a
+below_four P a b c d (suc zero) h = b
+below_four P a b c d (suc (suc zero)) h = c
+below_four P a b c d (suc (suc (suc zero))) h = d
+below_four P a b c d (suc (suc (suc (suc k)))) h = absurd (omega arith)

@@ -182,3 +182,31 @@ held_more s head x f i h e =
 pub key_from_held : (id d : List ℕ) (q n p : ℕ) (f : ℕ → List ℕ) → d ≡ sha256 ((leaf_head id q ++ 0x80 ∷ 0x80 ∷ []) ++ joined f n) → n ≡ p → d ≡ key_of_ends id q (joined f p)
 unfolding key_of_ends
 key_from_held id d q n p f e en = e ∙ rw en (ap sha256 (append_assoc (leaf_head id q) (0x80 ∷ 0x80 ∷ []) (joined f p)))
+
+-- ---- one leaf of several side by side
+
+-- the block is leaf q's, and its hasher has taken the ends of the first i chains
+abbrev pub KeyLane : List ℕ → List ℕ → ℕ → ℕ → ℕ → List ℕ → Sha256 → Type 0
+KeyLane id seed code q i block hasher = (take 20 block ≡ leaf_head id q)
+    × Holds256 hasher ((leaf_head id q ++ 0x80 ∷ 0x80 ∷ []) ++ joined (λ n. chain (chain_head id q n) 0 (last_step code) (chain_start id q seed n)) i)
+
+pub lane_none : (id seed block : List ℕ) (hasher : Sha256) (code q : ℕ) → take 20 block ≡ leaf_head id q
+    → Holds256 hasher (leaf_head id q ++ 0x80 ∷ 0x80 ∷ []) → KeyLane id seed code q 0 block hasher
+lane_none id seed block hasher code q e h = (e, held_none hasher _ _ h)
+
+-- one chain more
+pub lane_more : (id seed a s b : List ℕ) (h g : Sha256) (code q i m : ℕ) → length id ≡ 16 → KeyLane id seed code q i a h
+    → take 22 s ≡ take 20 a ++ to_be_bytes w16 i → drop 23 s ≡ chain_step (take 22 s) 0xff seed
+    → take 22 b ≡ take 22 s → drop 23 b ≡ chain (take 22 s) 0 (m - 0) (drop 23 s) → m ≡ last_step code
+    → ((x : List ℕ) → Holds256 h x → Holds256 g (x ++ drop 23 b)) → KeyLane id seed code q (i + 1) b g
+lane_more id seed a s b h g code q i m long lane start first head value steps takes =
+    let opens = opened id a s q i start lane.0 in (
+      leaf_kept id b q i long (head ∙ opens),
+      held_more g _ (drop 23 b) _ i (takes _ lane.1) (went_on id seed s b q i m (last_step code) opens first value steps),
+    )
+
+-- and all of them
+pub lane_all : (id seed b d : List ℕ) (h : Sha256) (code q r i : ℕ) → KeyLane id seed code q i b h → ((x : List ℕ) → Holds256 h x → d ≡ sha256 x)
+    → i ≡ chain_count code → r ≡ q → d ≡ ots_public code id r seed
+unfolding ots_public
+lane_all id seed b d h code q r i lane ends all same = rw same (key_from_held id d q i (chain_count code) _ (ends _ lane.1) all)

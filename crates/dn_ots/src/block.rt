@@ -10,7 +10,7 @@ use sha2::{Digest, Sha256};
 pub(crate) type Block = [u8; 55];
 
 /// Writes a part in place.
-fn put(block: &mut Block, at: usize, part: &[u8])
+pub(crate) fn put(block: &mut Block, at: usize, part: &[u8])
     requires { at + length part.now ≤ 55 }
     ensures { block.new ≡ take at block.old ++ part.now ++ drop (at + length part.now) block.old }
 {

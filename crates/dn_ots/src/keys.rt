@@ -1,12 +1,13 @@
-ghost use Rattle.std.specs.Prelude.{◌≡◌, ℕ, List, Some, IsTrue, ◌↔◌, IsOkAnd, IfOk, SomeIff, length, take, ◌++◌, ◌∷◌, []};
+ghost use Rattle.std.specs.Prelude.{◌≡◌, ℕ, ◌+◌, ◌^◌, ◌<◌, List, Some, IsTrue, ◌↔◌, IsOkAnd, IfOk, SomeIff, length, take, drop, slice_index_or, ◌++◌, ◌∷◌, []};
 ghost use Rattle.std.specs.Int.{w16, w32, to_be_bytes};
 ghost use Rattle.sha2.specs.Hashers.{Holds256};
 ghost use Rattle.dn_ots.specs.Chain.{leaf_head};
 ghost use Rattle.dn_ots.specs.Ots.{message_hash, ots_candidate, ots_public, ots_signature, randomizer};
 
 use crate::Params;
-use crate::block::{leaf_block, open_chain, run, start_chain};
+use crate::block::{Block, leaf_block, open_chain, run, start_chain};
 use crate::digits::{coef, with_checksum};
+use crate::four::{run_four, start_four};
 use dn_memory::NoMemory;
 use sha2::{Digest, Sha256};
 use std::alloc::Global;
@@ -69,6 +70,44 @@ pub fn ots_public(
         hasher.update(&block[23..]);
     }
     Ok(hasher.finalize())
+}
+
+/// Gives a hasher the value of a chain.
+fn take_value(hasher: &mut Sha256, block: &Block)
+    ensures { (m : List ℕ) → Holds256 hasher.old m → Holds256 hasher.new (m ++ drop 23 block.now) }
+{
+    hasher.update(&block[23..]);
+}
+
+/// The public keys K of the four leaves from leaf q on, made side by side.
+pub fn ots_public_four(params: Params, id: &[u8; 16], q: u32, seed: &[u8; 32]) -> [[u8; 32]; 4]
+    requires { q + 3 < 2 ^ 32 }
+    ensures { (k : ℕ) → k < 4 → slice_index_or result k [] ≡ ots_public params.code id.now (q + k) seed.now }
+{
+    let mut blocks = [
+        leaf_block(id, q),
+        leaf_block(id, q + 1),
+        leaf_block(id, q + 2),
+        leaf_block(id, q + 3),
+    ];
+    let mut first = leaf_hasher(id, q, KEY);
+    let mut second = leaf_hasher(id, q + 1, KEY);
+    let mut third = leaf_hasher(id, q + 2, KEY);
+    let mut fourth = leaf_hasher(id, q + 3, KEY);
+    'chains: for i in 0..params.p {
+        let started = start_four(&blocks, i as u16, seed);
+        blocks = run_four(started, 0, params.last_step());
+        take_value(&mut first, &blocks[0]);
+        take_value(&mut second, &blocks[1]);
+        take_value(&mut third, &blocks[2]);
+        take_value(&mut fourth, &blocks[3]);
+    }
+    [
+        first.finalize(),
+        second.finalize(),
+        third.finalize(),
+        fourth.finalize(),
+    ]
 }
 
 /// The signature of a message at leaf q, of `sig_len` bytes (RFC 8554 section 4.5):

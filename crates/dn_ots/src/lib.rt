@@ -6,8 +6,11 @@
 
 mod block;
 mod digits;
+mod four;
 mod keys;
 mod parameters;
+#[cfg(test)]
+mod tests;
 
-pub use keys::{candidate, ots_public, ots_sign};
+pub use keys::{candidate, ots_public, ots_public_four, ots_sign};
 pub use parameters::{Params, UnknownType};
