@@ -6,10 +6,8 @@ use Rattle.std.proofs.lemmas.List.{length-append, get_or-drop, get_or-take, get_
 use Rattle.dn_wire.specs.Cursor.{Cursor}
 use Rattle.dn_wire.specs.declared.reader.FieldFault.{FieldFault}
 use Rattle.dn_records.specs.declared.fault.RecordFault.{RecordFault}
+pub use Rattle.dn_records.specs.Exact.{IsBytes, Took, before, behind, Finds, Knows, IsExact}
 use Rattle.dn_records.specs.Part.{◌>>=◌, Read, Part, field, made, ◌⋈◌, seen}
-
-abbrev pub IsBytes : List ℕ → Type 0
-IsBytes bytes = (i : ℕ) → get_or bytes i 0 < 256
 
 pub IsBytes-drop : (n : ℕ) (bytes : List ℕ) → IsBytes bytes → IsBytes (drop n bytes)
 IsBytes-drop n bytes h i = rw get_or-drop (h (n + i))
@@ -51,12 +49,6 @@ pub field_ok : {A : Type 0} (r : Result (A × Cursor) FieldFault) (y : A × Curs
 field_ok (Ok x) y e = cc
 field_ok (Err f) y e = absurd cc
 
--- what a reader took from the front
-pub record Took (c : Cursor) (text : List ℕ) (d : Cursor) : Type 0 where
-  pub parts : c.rest ≡ text ++ d.rest
-  pub moved : d.at ≡ c.at + length text
-  pub bytes : IsBytes d.rest
-
 pub Took-then : (a : Cursor) (x : List ℕ) (b : Cursor) (y : List ℕ) (c : Cursor) → Took a x b → Took b y c → Took a (x ++ y) c
 Took-then a x b y c p q = record {
   parts = p.parts ∙ ap (λ (t : List ℕ). x ++ t) q.parts ∙ sym (append_assoc x y c.rest);
@@ -66,23 +58,6 @@ Took-then a x b y c p q = record {
 
 pub Took-nothing : (c : Cursor) → IsBytes c.rest → Took c [] c
 Took-nothing c h = record { parts = refl; moved = omega arith; bytes = h }
-
--- the cursor at a place, before a text and what follows it
-abbrev pub before : ℕ → List ℕ → List ℕ → Cursor
-before at text rest = record { at = at; rest = text ++ rest }
-
-abbrev pub behind : ℕ → List ℕ → List ℕ → Cursor
-behind at text rest = record { at = at + length text; rest = rest }
-
-abbrev pub Finds : {A : Type 0} → (Cursor → Read A) → (A → List ℕ) → (A → Type 0) → Type 0
-Finds {A} read spell Fits = (c : Cursor) (x : A) (d : Cursor) → IsBytes c.rest → read c ≡ Ok (x, d) → Took c (spell x) d × Fits x
-
-abbrev pub Knows : {A : Type 0} → (Cursor → Read A) → (A → List ℕ) → (A → Type 0) → Type 0
-Knows {A} read spell Fits = (x : A) (at : ℕ) (rest : List ℕ) → Fits x → read (before at (spell x) rest) ≡ Ok (x, behind at (spell x) rest)
-
-pub record IsExact {A : Type 0} (p : Part A) : Type 0 where
-  pub finds : Finds p.read p.spell p.Fits
-  pub knows : Knows p.read p.spell p.Fits
 
 pub both : {A B : Type 0} (p : Part A) (q : Part B) → IsExact p → IsExact q → IsExact (p ⋈ q)
 both {A} {B} p q ep eq = record {

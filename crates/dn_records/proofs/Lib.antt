@@ -1,3 +1,4 @@
+pub mod FieldFaults
 pub mod Loop
 pub mod Laws
 pub mod FieldLaws

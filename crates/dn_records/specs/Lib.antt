@@ -1,4 +1,5 @@
 pub mod Part
+pub mod Exact
 pub mod Fields
 pub mod Lists
 pub mod Records

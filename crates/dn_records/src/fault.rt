@@ -2,6 +2,7 @@ ghost use Rattle.std.specs.Prelude.{◌≡◌};
 ghost use Rattle.dn_records.specs.declared.fault.RecordFault.TheVariants.{NoMemory as Refused};
 
 use dn_memory::NoMemory;
+use dn_wire::FieldFault;
 use std::alloc::{AllocError, AllocFailed};
 
 /// Why bytes are no record: the first fault from the left. Places are counted in bytes from 0, the
@@ -27,6 +28,20 @@ impl From<NoMemory> for RecordFault {
 
     fn from(_: NoMemory) -> Self {
         RecordFault::NoMemory
+    }
+}
+
+impl From<FieldFault> for RecordFault {
+    ghost use Rattle.std.specs.Prelude.{◌≡◌};
+    ghost use Rattle.dn_records.specs.Part.{fault_of};
+
+    ghost from_gives = { λ f e. e ≡ fault_of f };
+
+    fn from(fault: FieldFault) -> Self {
+        match fault {
+            FieldFault::Cut { at } => RecordFault::Cut { at },
+            FieldFault::Over { at, limit } => RecordFault::Over { at, limit },
+        }
     }
 }
 

@@ -9,86 +9,58 @@ ghost use Rattle.dn_records.specs.Fields.{ends_in_zeros, read_bits};
 
 use crate::fault::RecordFault;
 use dn_bits::{Bits, BitsFault};
-use dn_wire::{Bytes, ClientId, FieldFault, MAX_BITS, Reader, Round, ServerId, SlotId};
+use dn_wire::{Bytes, ClientId, MAX_BITS, Reader, Round, ServerId, SlotId};
 use std::alloc::Global;
 
-#[tactic(auto, unfolding(crate::specs::Fields::read_byte))]
+#[tactic(auto, using(crate::proofs::FieldFaults::field_fails), unfolding(crate::specs::Fields::read_byte))]
 pub fn u8_of(reader: &mut Reader) -> Result<u8, RecordFault>
     ensures { Reads (λ x. x) result reader.new (read_byte reader.old) }
 {
-    match reader.take_u8() {
-        Ok(byte) => Ok(byte),
-        Err(FieldFault::Cut { at }) => Err(RecordFault::Cut { at }),
-        Err(FieldFault::Over { at, limit }) => Err(RecordFault::Over { at, limit }),
-    }
+    Ok(reader.take_u8()?)
 }
 
-#[tactic(auto, unfolding(crate::specs::Fields::read_number))]
+#[tactic(auto, using(crate::proofs::FieldFaults::field_fails), unfolding(crate::specs::Fields::read_number))]
 pub fn u16_of(reader: &mut Reader) -> Result<u16, RecordFault>
     ensures { Reads (λ x. x) result reader.new (read_number w16 reader.old) }
 {
-    match reader.take_u16() {
-        Ok(number) => Ok(number),
-        Err(FieldFault::Cut { at }) => Err(RecordFault::Cut { at }),
-        Err(FieldFault::Over { at, limit }) => Err(RecordFault::Over { at, limit }),
-    }
+    Ok(reader.take_u16()?)
 }
 
-#[tactic(auto, unfolding(crate::specs::Fields::read_number))]
+#[tactic(auto, using(crate::proofs::FieldFaults::field_fails), unfolding(crate::specs::Fields::read_number))]
 pub fn u32_of(reader: &mut Reader) -> Result<u32, RecordFault>
     ensures { Reads (λ x. x) result reader.new (read_number w32 reader.old) }
 {
-    match reader.take_u32() {
-        Ok(number) => Ok(number),
-        Err(FieldFault::Cut { at }) => Err(RecordFault::Cut { at }),
-        Err(FieldFault::Over { at, limit }) => Err(RecordFault::Over { at, limit }),
-    }
+    Ok(reader.take_u32()?)
 }
 
-#[tactic(auto, unfolding(crate::specs::Fields::read_number))]
+#[tactic(auto, using(crate::proofs::FieldFaults::field_fails), unfolding(crate::specs::Fields::read_number))]
 pub fn u64_of(reader: &mut Reader) -> Result<u64, RecordFault>
     ensures { Reads (λ x. x) result reader.new (read_number w64 reader.old) }
 {
-    match reader.take_u64() {
-        Ok(number) => Ok(number),
-        Err(FieldFault::Cut { at }) => Err(RecordFault::Cut { at }),
-        Err(FieldFault::Over { at, limit }) => Err(RecordFault::Over { at, limit }),
-    }
+    Ok(reader.take_u64()?)
 }
 
-#[tactic(auto, unfolding(crate::specs::Fields::read_limited))]
+#[tactic(auto, using(crate::proofs::FieldFaults::field_fails), unfolding(crate::specs::Fields::read_limited))]
 pub fn limited_of(reader: &mut Reader, limit: u32) -> Result<u32, RecordFault>
     ensures { Reads (λ x. x) result reader.new (read_limited limit reader.old) }
 {
-    match reader.take_max(limit) {
-        Ok(number) => Ok(number),
-        Err(FieldFault::Cut { at }) => Err(RecordFault::Cut { at }),
-        Err(FieldFault::Over { at, limit }) => Err(RecordFault::Over { at, limit }),
-    }
+    Ok(reader.take_max(limit)?)
 }
 
-#[tactic(auto, unfolding(crate::specs::Fields::read_bytes))]
+#[tactic(auto, using(crate::proofs::FieldFaults::field_fails), unfolding(crate::specs::Fields::read_bytes))]
 pub fn bytes_of<'a>(reader: &mut Reader<'a>, n: usize) -> Result<&'a [u8], RecordFault>
     ensures value { Reads (λ x. x.now) result reader.new (read_bytes n reader.old) }
     ensures size { IfOk result (λ x. length x.now ≡ n) }
 {
-    match reader.take_bytes(n) {
-        Ok(bytes) => Ok(bytes),
-        Err(FieldFault::Cut { at }) => Err(RecordFault::Cut { at }),
-        Err(FieldFault::Over { at, limit }) => Err(RecordFault::Over { at, limit }),
-    }
+    Ok(reader.take_bytes(n)?)
 }
 
 /// A reader of the next n bytes alone.
-#[tactic(auto, unfolding(crate::specs::Fields::read_inner))]
+#[tactic(auto, using(crate::proofs::FieldFaults::field_fails), unfolding(crate::specs::Fields::read_inner))]
 pub fn inner_of<'a>(reader: &mut Reader<'a>, n: usize) -> Result<Reader<'a>, RecordFault>
     ensures { Reads (λ x. x) result reader.new (read_inner n reader.old) }
 {
-    match reader.take_inner(n) {
-        Ok(inner) => Ok(inner),
-        Err(FieldFault::Cut { at }) => Err(RecordFault::Cut { at }),
-        Err(FieldFault::Over { at, limit }) => Err(RecordFault::Over { at, limit }),
-    }
+    Ok(reader.take_inner(n)?)
 }
 
 /// A byte with one of the values 1 to n.
