@@ -1,5 +1,5 @@
 -- The values that `collect` takes.
-use Rattle.std.proofs.Common.{◌≡◌, ◌≢◌, ◌⊎◌, ℕ, suc, ◌+◌, ◌<◌, ◌≤◌, List, [], ◌∷◌, ◌++◌, length, get_or, map, refl, sym, ap, subst, ◌∙◌, arith, append_assoc, append-nil, Bool, true, false, cond, ◌==◌, eq-eqb, ne_eqb, inl, inr, ⊎_elim, length-append, ◌-◌, Option, Some, None}
+use Rattle.std.proofs.Common.{◌≡◌, ◌≢◌, ◌⊎◌, ℕ, suc, ◌+◌, ◌<◌, ◌≤◌, List, [], ◌∷◌, ◌++◌, length, get_or, map, refl, sym, ap, subst, ◌∙◌, arith, append_assoc, append-nil, Bool, cond, eq-eqb, ne_eqb, inl, inr, ⊎_elim, length-append, ◌-◌, Option, Some, None}
 use Rattle.std.specs.List.Sorted.{IsStrictlyIncreasing}
 use Rattle.std.proofs.lemmas.List.{map-append, get_or_append_left}
 use Rattle.std.proofs.Math.Seq.{get_or-append_seam}
@@ -32,8 +32,8 @@ module _ {T : Type 0} where
   one_with i [] x h only = absurd (omega arith)
   one_with i ((c, z) ∷ xs) x h only = dite (ℕ_discrete c i)
       (λ e.
-        let is : z ≡ x = only 0 z (ap (λ (k : ℕ). some (k, z)) e) in
-        with_number-hit i c z xs e ∙ (λ j. (e j, is j) ∷ none_with i xs (omega (arith, h, hit c i e)) j))
+      let is : z ≡ x = only 0 z (ap (λ (k : ℕ). some (k, z)) e) in
+      with_number-hit i c z xs e ∙ (λ j. (e j, is j) ∷ none_with i xs (omega (arith, h, hit c i e)) j))
       (λ ne. with_number-miss i c z xs ne ∙ one_with i xs x (omega (arith, h, miss c i ne)) (λ k y f. only (suc k) y f))
 
   pub in_order-more : (i : ℕ) (xs : List (ℕ × T)) → in_order (i + 1) xs ≡ in_order i xs ++ with_number i xs
@@ -44,7 +44,7 @@ module _ {T : Type 0} where
   values_more v i m xs ys t all is = ⊎_elim
       (λ l. l.1 ∙ is ∙ ap (map named) (sym (in_order-more i v.values ∙ ap (λ l'. in_order i v.values ++ l') (none_with i v.values (l.2 all)) ∙ append-nil (in_order i v.values))))
       (λ r. r.2 ∙ ap (λ l. l ++ named (i, r.0) ∷ []) is ∙ sym (map-append named (in_order i v.values) ((i, r.0) ∷ []))
-        ∙ ap (map named) (sym (in_order-more i v.values ∙ ap (λ l'. in_order i v.values ++ l') (one_with i v.values r.0 (r.4 all) r.3))))
+      ∙ ap (map named) (sym (in_order-more i v.values ∙ ap (λ l'. in_order i v.values ++ l') (one_with i v.values r.0 (r.4 all) r.3))))
       t
 
   -- the clients so far
@@ -55,7 +55,7 @@ module _ {T : Type 0} where
   took_more v u i m xs ys is t = ⊎_elim
       (λ l. l.0 ∙ ap (λ w. (w, [])) is ∙ ap (λ c. (took_all v (clients_of c), [])) (sym l.1))
       (λ r. r.1 ∙ ap (λ w. (took w i, [])) is
-        ∙ (λ j. (view v.passes v.clients v.before v.numbers v.claim v.unmarked v.draws v.values v.repeats v.closing v.looked ((append_assoc v.taken (clients_of xs) (i ∷ []) ∙ ap (λ l. v.taken ++ l) (sym (map-append (λ p. p.0.0) xs (named (i, r.0) ∷ []))) ∙ ap (λ c. v.taken ++ clients_of c) (sym r.2)) j), [])))
+      ∙ (λ j. (view v.passes v.clients v.before v.numbers v.claim v.unmarked v.draws v.values v.repeats v.closing v.looked ((append_assoc v.taken (clients_of xs) (i ∷ []) ∙ ap (λ l. v.taken ++ l) (sym (map-append (λ p. p.0.0) xs (named (i, r.0) ∷ []))) ∙ ap (λ c. v.taken ++ clients_of c) (sym r.2)) j), [])))
       t
 
   -- where the word wasn't marked, and where it was
@@ -102,8 +102,8 @@ below_push xs i h k lt = dite (dec_le (length xs) k)
 pub increasing_push : (xs : List ℕ) (i : ℕ) → ((k : ℕ) → k < length xs → get_or xs k 0 < i) → IsStrictlyIncreasing xs → IsStrictlyIncreasing (xs ++ i ∷ [])
 increasing_push xs i h up k lt = dite (dec_le (length xs) (k + 1))
     (λ le.
-      let e : k + 1 ≡ length xs = omega (arith, length-append xs (i ∷ [])) in
-      omega (arith, ap (λ j. get_or (xs ++ i ∷ []) j 0) e, get_or-append_seam xs i [] 0, get_or_append_left xs (i ∷ []) 0 k (omega arith), h k (omega arith)))
+    let e : k + 1 ≡ length xs = omega (arith, length-append xs (i ∷ [])) in
+    omega (arith, ap (λ j. get_or (xs ++ i ∷ []) j 0) e, get_or-append_seam xs i [] 0, get_or_append_left xs (i ∷ []) 0 k (omega arith), h k (omega arith)))
     (λ gt. omega (arith, get_or_append_left xs (i ∷ []) 0 k (omega arith), get_or_append_left xs (i ∷ []) 0 (k + 1) (omega arith), up k (omega arith)))
 
 pub times_above : (xs : List ℕ) (i : ℕ) → ((k : ℕ) → k < length xs → get_or xs k 0 < i) → times i xs ≡ 0

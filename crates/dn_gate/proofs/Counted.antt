@@ -1,5 +1,5 @@
 -- A pass that stands for all finds as many words marked as its closing counts.
-use Rattle.std.proofs.Common.{◌≡◌, ◌≢◌, ℕ, zero, suc, ◌+◌, ◌<◌, ◌≤◌, List, [], ◌∷◌, length, min, refl, sym, ap, subst, ◌∙◌, arith, Bool, true, false, cond, is_none, IfSome, MatchOption, Option, Some, None}
+use Rattle.std.proofs.Common.{◌≡◌, ℕ, zero, suc, ◌+◌, ◌<◌, ◌≤◌, List, [], ◌∷◌, length, min, refl, sym, ap, subst, ◌∙◌, arith, Bool, true, false, cond, is_none, IfSome, MatchOption, Option, Some, None}
 use mathlib.Core.Logic.{dite}
 use mathlib.Core.Option.{some}
 use native.Mathlib.Decide.{ℕ_discrete}
@@ -7,7 +7,7 @@ use lib.ListN.{get_elem?}
 use Rattle.atomic_table.specs.Table.{Step}
 use Rattle.atomic_table.specs.Seated.{TableId}
 use Rattle.dn_gate.specs.Draws.{Draw}
-use Rattle.dn_gate.specs.Rule.{At, closed, total, equal, once_below, included_of, IsBefore, IsTold, includes, puts, marks_upto, IsWindow, Settles}
+use Rattle.dn_gate.specs.Rule.{At, closed, total, equal, once_below, included_of, IsBefore, IsTold, includes, puts, marks_upto, IsSettled, Settles}
 use Rattle.dn_gate.specs.Pass.{GateId, PassView, pass_view, as_view, IsReady}
 use Rattle.dn_gate.specs.declared.view.View.{View}
 use Rattle.dn_gate.proofs.Sums.{hit, miss, below_more, below_yes, below_no}
@@ -83,7 +83,7 @@ module _ {T : Type 0} where
   marks_is v values zero = sym (total_none v.draws)
   marks_is v values (suc n) = let e : n + 1 ≡ suc n = omega arith in omega (arith, marks_is v values n, values n, total_both (inside_of n) (included_of n) (inside_of (n + 1)) (inside_more n) v.draws, ap (λ (k : ℕ). total (inside_of k) v.draws) e)
 
-  pub marks_all : (v : View T) (count : ℕ) → IsWindow v → v.closing ≡ Some count → marks_upto v v.clients ≡ count
+  pub marks_all : (v : View T) (count : ℕ) → IsSettled v → v.closing ≡ Some count → marks_upto v v.clients ≡ count
   marks_all v count w closing =
       let long : count ≤ length v.draws = subst (λ o. IfSome o (λ c. c ≤ length v.draws)) closing w.cut in
       omega (
@@ -95,16 +95,16 @@ module _ {T : Type 0} where
       )
 
   -- what a pass that stands for all knows after a load by which it settles
-  pub settled : (st : Step (Option T)) (t : TableId) (s found : ℕ) (m n : At T) (p : PassView T) (q : GateId) → pass_view t s m ≡ p → p.gate ≡ q → IsReady p → Settles st m found n → length p.numbers ≡ q.passes → IsWindow m.0
+  pub settled : (st : Step (Option T)) (t : TableId) (s found : ℕ) (m n : At T) (p : PassView T) (q : GateId) → pass_view t s m ≡ p → p.gate ≡ q → IsReady p → Settles st m found n → length p.numbers ≡ q.passes → IsSettled m.0
   settled st t s found m n p q view_is gate ready told all =
       told.2 (ap (λ (x : PassView T). length x.numbers) view_is ∙ all ∙ sym (ap (λ (x : GateId). x.passes) (ap (λ (x : PassView T). x.gate) view_is ∙ gate)))
       (ap (λ (x : PassView T). x.claim) view_is ∙ ready.0, ap (λ (x : PassView T). x.unmarked) view_is ∙ ready.1)
 
-  pub settled_view : (t : TableId) (s : ℕ) (m : At T) (p : PassView T) → pass_view t s m ≡ p → IsWindow m.0 → IsWindow (as_view p)
-  settled_view t s m p view_is w = subst (λ (x : PassView T). IsWindow (as_view x)) view_is w
+  pub settled_view : (t : TableId) (s : ℕ) (m : At T) (p : PassView T) → pass_view t s m ≡ p → IsSettled m.0 → IsSettled (as_view p)
+  settled_view t s m p view_is w = subst (λ (x : PassView T). IsSettled (as_view x)) view_is w
 
   -- so many words were found marked as the closing counts
-  pub none_missing : (t : TableId) (s clients count marked : ℕ) (m n : At T) (p : PassView T) (q : GateId) → pass_view t s m ≡ p → p.gate ≡ q → p.closing ≡ Some count → length p.numbers ≡ q.passes → clients ≡ q.clients → n ≡ m → IsWindow m.0
+  pub none_missing : (t : TableId) (s clients count marked : ℕ) (m n : At T) (p : PassView T) (q : GateId) → pass_view t s m ≡ p → p.gate ≡ q → p.closing ≡ Some count → length p.numbers ≡ q.passes → clients ≡ q.clients → n ≡ m → IsSettled m.0
       → (length n.0.numbers ≡ n.0.passes → marked ≡ marks_upto n.0 clients) → marked ≡ count
   none_missing t s clients count marked m n p q view_is gate closing all wide same w told =
       let gate' = ap (λ (x : PassView T). x.gate) view_is ∙ gate in

@@ -1,19 +1,19 @@
 -- What a pass that stands for all knows is the history of one window.
-use Rattle.std.proofs.Common.{◌≡◌, ◌≢◌, ◌⊎◌, ℕ, zero, suc, ◌+◌, ◌<◌, ◌≤◌, List, [], ◌∷◌, ◌++◌, length, map, take, drop, refl, sym, ap, ap₂, subst, ◌∙◌, arith, append_assoc, append-nil, Bool, true, false, cond, is_none, IfSome, MatchOption, Option, Some, None, ◌==◌, ◌||◌, eq-eqb, ne_eqb, lt-ltb, le-ltb, nat_lt, inl, inr, ⊎_elim, count_by}
+use Rattle.std.proofs.Common.{◌≡◌, ◌≢◌, ℕ, zero, suc, ◌+◌, ◌<◌, ◌≤◌, List, [], ◌∷◌, ◌++◌, length, map, take, drop, refl, sym, ap, ap₂, ◌∙◌, arith, append-nil, Bool, true, false, cond, is_none, MatchOption, Option, Some, None, ◌==◌, ◌||◌, eq-eqb, ne_eqb, lt-ltb, le-ltb, count_by}
 use Rattle.std.specs.List.{list_any, filter, filter_map, range_with_len}
 use Rattle.std.proofs.lemmas.List.{map-append, take-append-drop}
 use Rattle.std.proofs.lemmas.List.Folds.{list_any-append}
 use Rattle.std.proofs.lemmas.List.Elements.{filter-append, filter_map-append}
 use mathlib.Core.Logic.{dite}
-use mathlib.Core.Option.{some, some-injective, some-ne-none}
+use mathlib.Core.Option.{some, some-ne-none}
 use native.Mathlib.Decide.{ℕ_discrete, dec_le}
 use lib.ListN.{get_elem?}
 use Rattle.dn_told.specs.declared.told.WindowTold.{WindowTold}
 use Rattle.dn_told.specs.declared.told.WindowTold.TheVariants.{Included, Late, Repeat}
-use Rattle.dn_told.specs.Window.{WindowEvent, Submit, Close, is_submit_of, is_among, has_submitted, is_closed, told_after, answers_after, answers, included_client, included}
+use Rattle.dn_told.specs.Window.{WindowEvent, Submit, Close, is_among, has_submitted, is_closed, told_after, answers_after, answers, included_client}
 use Rattle.dn_told.proofs.WindowLemmas.{has_submitted-append, is_closed-append, answers_after-append}
 use Rattle.dn_gate.specs.Draws.{Draw}
-use Rattle.dn_gate.specs.Rule.{closed, total, times, equal, was, of_client, included_of, draws_of, includes, puts, IsBefore, IsTold, IsWindow}
+use Rattle.dn_gate.specs.Rule.{closed, total, times, equal, was, of_client, included_of, IsBefore, IsTold, IsSettled}
 use Rattle.dn_gate.specs.Order.{with_number, in_order}
 use Rattle.dn_gate.specs.Pass.{PassView, as_view}
 use Rattle.dn_gate.specs.History.{submissions, drawn, told_at, repeats_of, history, told, IsHistory}
@@ -127,14 +127,14 @@ draws_answered before past [] new apart is = refl
 draws_answered before past (d ∷ ds) new apart is =
     let more : List WindowEvent = past ++ Submit d.client ∷ [] in
     ap₂ (λ (t : WindowTold) l. (d.client, t) ∷ l)
-        (told_new before past d.client (told_at d.late) (new 0 d refl) (is 0 d refl))
-        (draws_answered before more ds
-        (λ j e at.
-          let old = either_no (is_among before e.client) (has_submitted past e.client) (new (suc j) e at) in
-          neither (is_among before e.client) (has_submitted more e.client) old.0
-              (has_submitted-append past (Submit d.client ∷ []) e.client ∙ neither (has_submitted past e.client) ((d.client == e.client) || false) old.1 (or_false (d.client == e.client) ∙ ne_eqb d.client e.client (apart 0 (suc j) d e (omega arith) refl at))))
-        (λ j k e f lt a b. apart (suc j) (suc k) e f (omega arith) a b)
-        (λ j e at. is (suc j) e at ∙ ap (λ b. cond b Late Included) (sym (is_closed-append past (Submit d.client ∷ []) ∙ or_false (is_closed past)))))
+    (told_new before past d.client (told_at d.late) (new 0 d refl) (is 0 d refl))
+    (draws_answered before more ds
+    (λ j e at.
+    let old = either_no (is_among before e.client) (has_submitted past e.client) (new (suc j) e at) in
+    neither (is_among before e.client) (has_submitted more e.client) old.0
+    (has_submitted-append past (Submit d.client ∷ []) e.client ∙ neither (has_submitted past e.client) ((d.client == e.client) || false) old.1 (or_false (d.client == e.client) ∙ ne_eqb d.client e.client (apart 0 (suc j) d e (omega arith) refl at))))
+    (λ j k e f lt a b. apart (suc j) (suc k) e f (omega arith) a b)
+    (λ j e at. is (suc j) e at ∙ ap (λ b. cond b Late Included) (sym (is_closed-append past (Submit d.client ∷ []) ∙ or_false (is_closed past)))))
 
 abbrev Every : {A : Type 0} → (A → Type 0) → List A → Type 0
 Every P [] = Unit {0}
@@ -238,20 +238,20 @@ cut_answered before cut ds places told once = by cut told
         let past : List WindowEvent = submissions first ++ Close ∷ [] in
         let shut : is_closed past ≡ true = is_closed-append (submissions first) (Close ∷ []) ∙ or_right (is_closed (submissions first)) true refl in
         let front : answers_after before [] (submissions first) ≡ map answer_of first =
-            draws_answered before [] first
-                (λ j d at. neither (is_among before d.client) false (new j d (take_at count ds j d at).0) refl)
-                (λ j k d e lt a b. apart j k d e lt (take_at count ds j d a).0 (take_at count ds k e b).0)
-                (λ j d at. let q = take_at count ds j d at in told_below d count (t j d q.0) (omega (arith, places j d q.0, q.1))) in
+        draws_answered before [] first
+        (λ j d at. neither (is_among before d.client) false (new j d (take_at count ds j d at).0) refl)
+        (λ j k d e lt a b. apart j k d e lt (take_at count ds j d a).0 (take_at count ds k e b).0)
+        (λ j d at. let q = take_at count ds j d at in told_below d count (t j d q.0) (omega (arith, places j d q.0, q.1))) in
         let back : answers_after before past (submissions others) ≡ map answer_of others =
-            draws_answered before past others
-                (λ j d at.
-                  let here = drop_at count ds j d at in
-                  let parts = total-append (of_client d.client) first others in
-                  let none_first : total (of_client d.client) first ≡ 0 = omega (arith, once (count + j) d here, ap (total (of_client d.client)) (take-append-drop count ds), parts, term_le (of_client d.client) others j d at, hit d.client d.client refl) in
-                  neither (is_among before d.client) (has_submitted past d.client) (new (count + j) d here)
-                      (has_submitted-append (submissions first) (Close ∷ []) d.client ∙ or_false (has_submitted (submissions first) d.client) ∙ submitted_any first d.client ∙ any_no first d.client none_first))
-                (λ j k d e lt a b. apart (count + j) (count + k) d e (omega arith) (drop_at count ds j d a) (drop_at count ds k e b))
-                (λ j d at. let here = drop_at count ds j d at in told_above d count (t (count + j) d here) (omega (arith, places (count + j) d here)) ∙ ap (λ b. cond b Late Included) (sym shut)) in
+        draws_answered before past others
+        (λ j d at.
+        let here = drop_at count ds j d at in
+        let parts = total-append (of_client d.client) first others in
+        let none_first : total (of_client d.client) first ≡ 0 = omega (arith, once (count + j) d here, ap (total (of_client d.client)) (take-append-drop count ds), parts, term_le (of_client d.client) others j d at, hit d.client d.client refl) in
+        neither (is_among before d.client) (has_submitted past d.client) (new (count + j) d here)
+        (has_submitted-append (submissions first) (Close ∷ []) d.client ∙ or_false (has_submitted (submissions first) d.client) ∙ submitted_any first d.client ∙ any_no first d.client none_first))
+        (λ j k d e lt a b. apart (count + j) (count + k) d e (omega arith) (drop_at count ds j d a) (drop_at count ds k e b))
+        (λ j d at. let here = drop_at count ds j d at in told_above d count (t (count + j) d here) (omega (arith, places (count + j) d here)) ∙ ap (λ b. cond b Late Included) (sym shut)) in
         answers_after-append before [] (submissions first) (Close ∷ submissions others) ∙ ap₂ (λ x y. x ++ y) front back ∙ sym (map-append answer_of first others) ∙ ap (map answer_of) (take-append-drop count ds)
 
 places_from : (ds : List Draw) (a : ℕ) → ((j : ℕ) (d : Draw) → get_elem? ds j ≡ some d → d.place ≡ a + j) → map (λ d. d.place) ds ≡ range_with_len a (length ds)
@@ -323,17 +323,17 @@ no_repeat [] = refl
 no_repeat (r ∷ rs) = no_repeat rs
 
 module _ {T : Type 0} where
-  pub is_history : (p : PassView T) → IsWindow (as_view p) → IsHistory p
+  pub is_history : (p : PassView T) → IsSettled (as_view p) → IsHistory p
   is_history p w =
       let before : List ℕ = p.gate.before in
       let once : (j : ℕ) (d : Draw) → get_elem? p.draws j ≡ some d → was before d.client + total (of_client d.client) p.draws ≤ 1 = λ j d at. w.once d.client (w.inside j d at) in
       let front : answers_after before [] (drawn p.closing p.draws) ≡ map answer_of p.draws = cut_answered before p.closing p.draws w.places w.told once in
       let again : Every (IsAgain before (drawn p.closing p.draws)) p.repeats = every_at (IsAgain before (drawn p.closing p.draws)) p.repeats (λ j r at. dite (dec_le (was before r.1) 0)
-          (λ le. or_right (is_among before r.1) (has_submitted (drawn p.closing p.draws) r.1) (submitted_drawn p.closing p.draws r.1 ∙ any_yes p.draws r.1 (omega (arith, le, w.repeats j r at))))
-          (λ gt. or_of (is_among before r.1) (has_submitted (drawn p.closing p.draws) r.1) (was_yes before r.1 (omega arith)))) in
+      (λ le. or_right (is_among before r.1) (has_submitted (drawn p.closing p.draws) r.1) (submitted_drawn p.closing p.draws r.1 ∙ any_yes p.draws r.1 (omega (arith, le, w.repeats j r at))))
+      (λ gt. or_of (is_among before r.1) (has_submitted (drawn p.closing p.draws) r.1) (was_yes before r.1 (omega arith)))) in
       let answered : answers before (history p) ≡ told p =
-          answers_after-append before [] (drawn p.closing p.draws) (map (λ r. Submit r.1) (repeats_of p))
-          ∙ ap₂ (λ x y. x ++ y) front (repeats_answered before (drawn p.closing p.draws) (repeats_of p) (every-in_order (IsAgain before (drawn p.closing p.draws)) p.gate.passes p.repeats again)) in
+      answers_after-append before [] (drawn p.closing p.draws) (map (λ r. Submit r.1) (repeats_of p))
+      ∙ ap₂ (λ x y. x ++ y) front (repeats_answered before (drawn p.closing p.draws) (repeats_of p) (every-in_order (IsAgain before (drawn p.closing p.draws)) p.gate.passes p.repeats again)) in
       record {
         one_thread = answered;
         places = places_from p.draws 0 (λ j d at. w.places j d at ∙ omega arith);

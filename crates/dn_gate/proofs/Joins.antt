@@ -7,7 +7,7 @@ use lib.ListN.{get_elem?}
 use Rattle.atomic_table.specs.Table.{Joins, Splits, opening}
 use Rattle.atomic_table.proofs.Lists.{at_set, at_snoc, set_else}
 use Rattle.dn_gate.specs.Draws.{Draw}
-use Rattle.dn_gate.specs.Rule.{total, equal, times, once_below, at_place, of_client, included_of, is_client, either_one, joined, spent, client_words, first_only, is_set, was, without_first, of_first, claims, draws_of, puts, has_closing, Fits, IsKept}
+use Rattle.dn_gate.specs.Rule.{total, equal, times, once_below, at_place, of_client, included_of, is_client, either_one, joined, spent, after_first, first_only, is_set, was, without_first, of_first, claims, draws_of, puts, has_closing, Fits, IsKept}
 use Rattle.dn_gate.specs.declared.view.View.{View}
 use Rattle.dn_gate.proofs.Sums.{total-append, total-set, term_le, terms_le, times-append, hit, below_no}
 use Rattle.dn_gate.proofs.Ranges.{length-range, range_below, times-range}
@@ -157,7 +157,7 @@ module _ (T : Type 0) (clients passes : ℕ) (before : List ℕ) where
       let lim : (v.clients ≡ clients) × (v.passes ≡ passes) × (v.before ≡ before) = ⊎_elim (λ e. absurd (omega (arith, ap length is))) (λ e. e) f.limits in
       let both : (g : View T → ℕ) → total g (set s.views id w ++ u ∷ []) + g v ≡ total g s.views + g w + g u = λ g. omega (arith, total-append g (set s.views id w) (u ∷ []), total-set g s.views id v w at) in
       let first_below : (i j : ℕ) → get_elem? (n ∷ []) i ≡ some j → j < passes = λ i j e. f.below 0 j (ap (λ l. get_elem? l 0) is ∙ one_at n i j e) in
-      let wn : w.numbers ≡ m ∷ ns = ap client_words is in
+      let wn : w.numbers ≡ m ∷ ns = ap after_first is in
       let un : u.numbers ≡ n ∷ [] = ap first_only is in
       let same : (g : View T → ℕ) → g w ≡ g v → g u ≡ 0 → total g (set s.views id w ++ u ∷ []) ≡ total g s.views = λ g a b. omega (arith, both g, a, b) in
       let lows : total (λ x. length x.draws) (set s.views id w ++ u ∷ []) ≡ total (λ x. length x.draws) s.views = same (λ x. length x.draws) refl refl in

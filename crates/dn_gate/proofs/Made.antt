@@ -6,7 +6,7 @@ use lib.ListN.{get_elem?}
 use native.Mathlib.Decide.{ℕ_discrete}
 use Rattle.atomic_table.specs.Table.{Splits}
 use Rattle.dn_gate.specs.Opening.{range}
-use Rattle.dn_gate.specs.Rule.{At, view, first_only, client_words, without_first, of_first, IsKept, was, times}
+use Rattle.dn_gate.specs.Rule.{At, view, first_only, after_first, without_first, of_first, IsKept, was, times}
 use Rattle.dn_gate.specs.Pass.{GateId, PassView, pass_view, IsPass, IsFresh, IsNew}
 use Rattle.atomic_table.specs.Seated.{TableId}
 use Rattle.dn_gate.specs.declared.view.View.{View}
@@ -38,9 +38,9 @@ first_only-range : (n k : ℕ) → 0 < k → first_only (range n k) ≡ n ∷ []
 first_only-range n zero h = absurd (omega arith)
 first_only-range n (suc k) h = refl
 
-client_words-range : (n k : ℕ) → 0 < k → client_words (range n k) ≡ range (n + 1) (k - 1)
-client_words-range n zero h = absurd (omega arith)
-client_words-range n (suc k) h = let e : k ≡ suc k - 1 = omega arith in ap (range (n + 1)) e
+after_first-range : (n k : ℕ) → 0 < k → after_first (range n k) ≡ range (n + 1) (k - 1)
+after_first-range n zero h = absurd (omega arith)
+after_first-range n (suc k) h = let e : k ≡ suc k - 1 = omega arith in ap (range (n + 1)) e
 
 pub all_more : {A : Type 0} (P : ℕ → A → Type 0) (xs : List A) (x : A) (n : ℕ) → length xs ≡ n → ((i : ℕ) → IfSome (slice_get xs i) (P i)) → P n x → (i : ℕ) → IfSome (slice_get (xs ++ x ∷ []) i) (P i)
 all_more P [] x n e h p zero = subst (λ (k : ℕ). P k x) (sym e) p
@@ -86,4 +86,4 @@ module _ {T : Type 0} where
   first_cut passes clients n k b m n' h e d = d ∙ ap (λ (x : At T). (of_first x.0, [])) e ∙ ap (λ ns. (idle_view passes clients b ns, [])) (first_only-range n k h)
 
   pub rest_cut : (passes clients n k j : ℕ) (b : List ℕ) (m n' : At T) → 0 < k → k - 1 ≡ j → m ≡ (idle_view passes clients b (range n k), []) → n' ≡ (without_first m.0, m.1) → n' ≡ (idle_view passes clients b (range (n + 1) j), [])
-  rest_cut passes clients n k j b m n' h is e d = d ∙ ap (λ (x : At T). (without_first x.0, x.1)) e ∙ ap (λ ns. (idle_view passes clients b ns, [])) (client_words-range n k h ∙ ap (range (n + 1)) is)
+  rest_cut passes clients n k j b m n' h is e d = d ∙ ap (λ (x : At T). (without_first x.0, x.1)) e ∙ ap (λ ns. (idle_view passes clients b ns, [])) (after_first-range n k h ∙ ap (range (n + 1)) is)

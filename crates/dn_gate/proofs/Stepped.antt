@@ -1,5 +1,5 @@
 -- A pass after a draw, and after a mark.
-use Rattle.std.proofs.Common.{◌≡◌, ℕ, ◌+◌, ◌-◌, ◌<◌, ◌≤◌, List, [], ◌∷◌, ◌++◌, length, sym, ap, subst, ◌∙◌, arith, Option, Some, None}
+use Rattle.std.proofs.Common.{◌≡◌, ℕ, ◌+◌, ◌-◌, ◌<◌, [], ◌∷◌, ◌++◌, length, sym, ap, subst, ◌∙◌, arith, Option, Some, None}
 use mathlib.Core.Logic.{dite}
 use native.Mathlib.Decide.{dec_le}
 use mathlib.Core.Option.{none}
@@ -7,17 +7,16 @@ use Rattle.atomic_table.specs.Table.{Step, step, rest}
 use Rattle.atomic_table.specs.Seated.{TableId}
 use Rattle.dn_gate.specs.Rule.{At, closed, drew_in, drew_late, marked, least, Ascends, Draws, Marks}
 use Rattle.dn_gate.specs.Pass.{PassView, pass_view, included, IsPass}
-use Rattle.dn_gate.specs.declared.view.View.{View}
 
 module _ {T : Type 0} where
   pub drew_pass : (st : Step (Option T)) (m n : At T) (i found number : ℕ) → IsPass m number → m.0.claim ≡ Some i → m.1 ≡ (i, None) ∷ [] → Draws st m found n → IsPass n number
   drew_pass st m n i found number p claim out told = dite (dec_le closed found)
       (λ le.
-        let is : n ≡ (drew_late m.0 i found, rest m.1) = (told.0 i claim).1 le in
-        record { live = subst (λ (x : At T). 0 < length x.0.numbers) (sym is) p.live; least_is = p.least_is ∙ sym (ap (λ (x : At T). least x.0.numbers) is); empty = λ _. ap (λ (x : At T). x.1) is ∙ ap rest out; ascends = told.1 })
+      let is : n ≡ (drew_late m.0 i found, rest m.1) = (told.0 i claim).1 le in
+      record { live = subst (λ (x : At T). 0 < length x.0.numbers) (sym is) p.live; least_is = p.least_is ∙ sym (ap (λ (x : At T). least x.0.numbers) is); empty = λ _. ap (λ (x : At T). x.1) is ∙ ap rest out; ascends = told.1 })
       (λ gt.
-        let is : n ≡ (drew_in m.0 i found, m.1) = ((told.0 i claim).0 (omega arith)).1 in
-        record { live = subst (λ (x : At T). 0 < length x.0.numbers) (sym is) p.live; least_is = p.least_is ∙ sym (ap (λ (x : At T). least x.0.numbers) is); empty = λ idle. absurd (pending (sym (ap (λ (x : At T). x.0.unmarked) is) ∙ idle.1)); ascends = told.1 })
+      let is : n ≡ (drew_in m.0 i found, m.1) = ((told.0 i claim).0 (omega arith)).1 in
+      record { live = subst (λ (x : At T). 0 < length x.0.numbers) (sym is) p.live; least_is = p.least_is ∙ sym (ap (λ (x : At T). least x.0.numbers) is); empty = λ idle. absurd (pending (sym (ap (λ (x : At T). x.0.unmarked) is) ∙ idle.1)); ascends = told.1 })
     where
       pending : Some i ≡ None → ⊥
       pending e = cc
@@ -44,4 +43,4 @@ module _ {T : Type 0} where
       → pass_view t' s' q ≡ record p { claim = None; unmarked = Some i; draws = p.draws ++ included place i ∷ [] }
   drew_view t t' s s' m q p i found place view_is table seat is same =
       (λ j. pass_view (table j) (seat j) (is j)) ∙ ap (λ (y : PassView T). record y { claim = None; unmarked = Some i; draws = y.draws ++ included found i ∷ [] }) view_is
-        ∙ ap (λ (n : ℕ). record p { claim = None; unmarked = Some i; draws = p.draws ++ included n i ∷ [] }) same
+      ∙ ap (λ (n : ℕ). record p { claim = None; unmarked = Some i; draws = p.draws ++ included n i ∷ [] }) same

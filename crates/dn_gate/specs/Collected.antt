@@ -1,7 +1,5 @@
 -- What `collect` gives.
 use Rattle.std.specs.Prelude.{◌≡◌, ◌⊎◌, ℕ, List, [], ◌∷◌, ◌++◌, length, map}
-use mathlib.Core.Option.{some}
-use lib.ListN.{get_elem?}
 use Rattle.dn_gate.specs.Rule.{At, view, took, puts, IsOnly}
 use Rattle.dn_gate.specs.Pass.{PassView}
 use Rattle.dn_gate.specs.declared.view.View.{View}

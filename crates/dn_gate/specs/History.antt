@@ -1,5 +1,5 @@
 -- The one history of a gate: what a pass that stands for all knows that its passes were told, in one order.
-use Rattle.std.specs.Prelude.{◌≡◌, ℕ, ◌≤◌, List, [], ◌∷◌, ◌++◌, ◌==◌, length, map, count_by, take, drop, Option, Some, None, IfSome}
+use Rattle.std.specs.Prelude.{◌≡◌, ℕ, ◌≤◌, List, ◌∷◌, ◌++◌, ◌==◌, length, map, count_by, take, drop, Option, Some, None, IfSome}
 use Rattle.std.specs.List.{range_with_len}
 use Rattle.dn_told.specs.declared.told.WindowTold.{WindowTold}
 use Rattle.dn_told.specs.declared.told.WindowTold.TheVariants.{Included, Late, Repeat}

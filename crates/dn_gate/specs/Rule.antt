@@ -27,15 +27,16 @@ abbrev pub is_client : ℕ → Option ℕ → ℕ
 is_client i None = 0
 is_client i (Some c) = equal c i
 
--- the clients' words, and 1 for a word that isn't free
-abbrev pub client_words : List ℕ → List ℕ
-client_words [] = []
-client_words (w ∷ ws) = ws
+-- all but the first, and the first alone
+abbrev pub after_first : List ℕ → List ℕ
+after_first [] = []
+after_first (w ∷ ws) = ws
 
 abbrev pub first_only : List ℕ → List ℕ
 first_only [] = []
 first_only (n ∷ ns) = n ∷ []
 
+-- 1 for a word that isn't free
 abbrev pub is_set : ℕ → ℕ
 is_set w = cond (w == 0) 0 1
 
@@ -100,7 +101,7 @@ module _ {T : Type 0} where
 
   -- the first number goes to a new pass
   abbrev pub without_first : View T → View T
-  without_first v = view v.passes v.clients v.before (client_words v.numbers) v.claim v.unmarked v.draws v.values v.repeats v.closing v.looked v.taken
+  without_first v = view v.passes v.clients v.before (after_first v.numbers) v.claim v.unmarked v.draws v.values v.repeats v.closing v.looked v.taken
 
   abbrev pub of_first : View T → View T
   of_first v = view v.passes v.clients v.before (first_only v.numbers) None None [] [] [] None [] []
@@ -172,7 +173,7 @@ module _ {T : Type 0} where
     pub numbers : total (λ v. length v.numbers) s.views ≡ passes
     pub once : (k : ℕ) → total (λ v. times k v.numbers) s.views ≤ 1
     pub control : slice_index s.words 0 ≡ total (λ v. length v.draws) s.views + cond (is_some cut) closed 0
-    pub few : total (λ v. length v.draws + cond (is_some v.claim) 1 0) s.views ≤ total is_set (client_words s.words)
+    pub few : total (λ v. length v.draws + cond (is_some v.claim) 1 0) s.views ≤ total is_set (after_first s.words)
     pub places : (k : ℕ) → total (λ v. total (at_place k) v.draws) s.views ≡ once_below k (total (λ v. length v.draws) s.views)
     pub closings : total has_closing s.views ≡ cond (is_some cut) 1 0
     pub count : IfSome cut (λ n. n ≤ total (λ v. length v.draws) s.views)
@@ -186,8 +187,8 @@ module _ {T : Type 0} where
     pub kept : (i j k : ℕ) (v : View T) (x : T) → get_elem? s.views j ≡ some v → get_elem? v.values k ≡ some (i, x) → total (λ u. times i u.taken) s.views ≡ 0 → get_elem? s.homes i ≡ some (some (Some x))
     pub fits : (j : ℕ) (v : View T) → get_elem? s.views j ≡ some v → Fits clients passes before cut v
 
-  -- what a pass that stands for all knows where it is not in mid-call: its draws and its repeats are the answers of one window
-  pub record IsWindow (v : View T) : Type 0 where
+  -- what a pass that stands for all knows where it is not in mid-call
+  pub record IsSettled (v : View T) : Type 0 where
     pub places : (j : ℕ) (d : Draw) → get_elem? v.draws j ≡ some d → d.place ≡ j
     pub inside : (j : ℕ) (d : Draw) → get_elem? v.draws j ≡ some d → d.client < v.clients
     pub told : (j : ℕ) (d : Draw) → get_elem? v.draws j ≡ some d → IsTold v.closing d
@@ -202,7 +203,7 @@ module _ {T : Type 0} where
 
   -- a load of the control word after a join
   abbrev pub Settles : Step (Option T) → At T → ℕ → At T → Type 0
-  Settles st m found n = (n ≡ m) × Ascends m.0.draws × (length m.0.numbers ≡ m.0.passes → IsIdle m.0 → IsWindow m.0)
+  Settles st m found n = (n ≡ m) × Ascends m.0.draws × (length m.0.numbers ≡ m.0.passes → IsIdle m.0 → IsSettled m.0)
 
   -- fetch_or 1 on the client's word: the empty slot goes out with who claimed it
   abbrev pub Claims : Step (Option T) → At T → ℕ → At T → Type 0

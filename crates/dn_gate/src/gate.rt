@@ -76,8 +76,7 @@ impl<T: Drop> Gate<T> {
         };
         let words = first_words(alloc, clients as usize, before)?;
         let mut all = Vec::with_capacity(alloc, passes as usize)?;
-        let (table, mut first) =
-            Table::vacant(alloc, words.as_slice(), clients as usize, &terms)?;
+        let (table, mut first) = Table::vacant(alloc, words.as_slice(), clients as usize, &terms)?;
         for number in 0..passes - 1 {
             let seat = table.shared.split_seat::<One>(&mut first);
             all.push_reserved(GatePass { seat, number });

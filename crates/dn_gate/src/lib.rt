@@ -12,7 +12,6 @@
 mod already_closed;
 mod closing;
 mod collect;
-
 mod gate;
 mod not_yet;
 mod pass;

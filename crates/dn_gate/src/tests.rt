@@ -15,8 +15,18 @@ fn one_pass_submits_closes_and_collects(rt: HostRuntime) -> Result<(), Fail> {
     let (gate, mut passes): (Gate<u64>, _) = Gate::make(rt.alloc(), 3, &[ClientId(2)], 1)?;
     let mut pass = passes.pop().expect(&rt, "one pass");
     assert_eq!(rt; pass.number(), 0);
-    assert!(rt; matches!(gate.submit(&mut pass, ClientId(2), 7), Told::Repeat { back: 7 }));
-    assert!(rt; matches!(gate.submit(&mut pass, ClientId(0), 8), Told::Included { place: 0 }));
+    assert!(rt;
+        matches!(
+            gate.submit(&mut pass, ClientId(2), 7),
+            Told::Repeat { back: 7 }
+        )
+    );
+    assert!(rt;
+        matches!(
+            gate.submit(&mut pass, ClientId(0), 8),
+            Told::Included { place: 0 }
+        )
+    );
     let closing = gate.close(&mut pass).expect(&rt, "it was open");
     assert_eq!(rt; closing.count(), 1);
     assert!(rt;

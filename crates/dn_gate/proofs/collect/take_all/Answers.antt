@@ -1,4 +1,4 @@
-use Rattle.std.proofs.Common.{rules, arith, ◌≡◌, [], ap, refl, sym, ◌∙◌, ℕ, length, ◌<◌, ◌++◌, length-append}
+use Rattle.std.proofs.Common.{rules, arith, ◌≡◌, ap, refl, sym, ◌∙◌, length, ◌++◌}
 use Rattle.dn_gate.specs.Rule.{At, times}
 use Rattle.dn_gate.specs.Collected.{clients_of}
 use Rattle.dn_gate.proofs.Collects.{took_none, took_more, times_above, few_more, below_more', order_more, whole_more}
@@ -21,8 +21,7 @@ loop-i-init g c =
 pub take_into-requires-clause-seat : goal.take_into-requires-clause-seat
 take_into-requires-clause-seat g c =
     let me = c.loop-i.invariant.me in
-    let taken = ap (λ (q : At g.row.T.Denot). q.0.taken) me ∙ ap (λ l. l ++ clients_of c.loop-i.out.items) c.requires.seat.2 in
-    (
+    let taken = ap (λ (q : At g.row.T.Denot). q.0.taken) me ∙ ap (λ l. l ++ clients_of c.loop-i.out.items) c.requires.seat.2 in (
       omega (arith, c.requires.seat.0, ap (λ (q : At g.row.T.Denot). length q.0.numbers) me),
       λ e. c.requires.seat.1 (sym (ap (λ (q : At g.row.T.Denot). q.0.closing) me) ∙ e),
       ap (times c.loop-i.i) taken ∙ times_above (clients_of c.loop-i.out.items) c.loop-i.i c.loop-i.invariant.below,

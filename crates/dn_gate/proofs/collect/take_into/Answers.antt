@@ -1,8 +1,7 @@
-use Rattle.std.proofs.Common.{rules, ap, sym, ◌∙◌, ◌≡◌, ◌++◌, ◌∷◌, [], Some, refl, inl, inr}
+use Rattle.std.proofs.Common.{rules, ap, Some}
 use Rattle.dn_gate.specs.Rule.{At}
-use Rattle.dn_gate.specs.Collected.{named}
 use Rattle.dn_gate.proofs.Keeps.{takes_word, returns_word}
-use Rattle.dn_gate.proofs.Collects.{left_out, taken_out, out_again, emptied, in_taken, same_value, given_back}
+use Rattle.dn_gate.proofs.Collects.{taken_out, out_again, emptied, in_taken}
 use Rattle.dn_gate.proofs.collect.take_into.Goals as goal
 
 pub load-requires : goal.load-requires

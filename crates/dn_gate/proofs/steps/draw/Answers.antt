@@ -3,7 +3,6 @@ use mathlib.Core.Option.{none}
 use Rattle.atomic_table.specs.Table.{step}
 use Rattle.dn_gate.proofs.Keeps.{draws}
 use Rattle.dn_gate.proofs.Stepped.{drew_pass, drew_view}
-use Rattle.dn_gate.specs.declared.steps.Drawn.{Drawn}
 use Rattle.dn_gate.specs.declared.steps.Drawn.TheVariants.{Included, Late}
 use Rattle.dn_gate.proofs.steps.draw.Goals as goal
 use Rattle.dn_gate.proofs.steps.draw.Goals.{then-found-lt-CLOSED, else-found-lt-CLOSED}
@@ -27,13 +26,12 @@ invariant_of-pass g c =
 
 pub returns-clause-included : goal.returns-clause-included
 returns-clause-included g c = λ place is. elim c.if-found-lt-CLOSED.branch [
-  then-found-lt-CLOSED w ↦
-    let told = (c.fetch_add-found.ensures.2.0 c.args.client.0 (ap (λ p. p.claim) c.pass.view_is ∙ c.requires.claimed.0)).0 w.if-found-lt-CLOSED.true in
-    let same : c.fetch_add-found.result ≡ place = included_injective _ _ (sym w.result-is ∙ is) in
-    (
-      omega (arith, w.if-found-lt-CLOSED.true, same),
-      sym (ap (λ p. p.closing) c.pass.view_is) ∙ told.0,
-      drew_view c.pass.inside.seat.table_id _ c.pass.inside.seat.id _ c.pass.inside.seat.me _ c.args.pass.now c.args.client.0 c.fetch_add-found.result place c.pass.view_is c.fetch_add-found.ensures.0 c.fetch_add-found.ensures.1 told.1 same,
-    )
+  | then-found-lt-CLOSED w ↦
+      let told = (c.fetch_add-found.ensures.2.0 c.args.client.0 (ap (λ p. p.claim) c.pass.view_is ∙ c.requires.claimed.0)).0 w.if-found-lt-CLOSED.true in
+      let same : c.fetch_add-found.result ≡ place = included_injective _ _ (sym w.result-is ∙ is) in (
+        omega (arith, w.if-found-lt-CLOSED.true, same),
+        sym (ap (λ p. p.closing) c.pass.view_is) ∙ told.0,
+        drew_view c.pass.inside.seat.table_id _ c.pass.inside.seat.id _ c.pass.inside.seat.me _ c.args.pass.now c.args.client.0 c.fetch_add-found.result place c.pass.view_is c.fetch_add-found.ensures.0 c.fetch_add-found.ensures.1 told.1 same,
+      )
   | else-found-lt-CLOSED w ↦ absurd (apart _ _ (sym is ∙ w.result-is))
 ]

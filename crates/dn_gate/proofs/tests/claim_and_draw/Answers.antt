@@ -1,4 +1,4 @@
-use Rattle.std.proofs.Common.{rules, ap, refl, ◌∙◌}
+use Rattle.std.proofs.Common.{ap, refl, ◌∙◌}
 use Rattle.dn_gate.proofs.tests.claim_and_draw.Goals as goal
 
 pub returns-in-Included : goal.returns-in-Included

@@ -1,7 +1,7 @@
-use Rattle.std.proofs.Common.{◌≡◌, ◌<◌, ◌++◌, ◌∷◌, [], ℕ, List, All, length, get_or, sym, ap, subst, ◌∙◌, arith, length-append}
+use Rattle.std.proofs.Common.{◌≡◌, ◌++◌, ◌∷◌, [], List, All, length, get_or, ap, subst, ◌∙◌, arith, length-append}
 use Rattle.std.proofs.lemmas.List.{get_or_append_left}
 use Rattle.std.proofs.Math.Seq.{get_or-append_seam}
-use Rattle.dn_gate.specs.Pass.{PassView, IsNew}
+use Rattle.dn_gate.specs.Pass.{IsNew}
 use Rattle.dn_gate.proofs.tests.make_gate.Goals as goal
 
 -- what holds of all holds of those before the last, and of the last

@@ -1,4 +1,4 @@
-use Rattle.std.proofs.Common.{rules, ◌≡◌, ap, sym, ◌∙◌, [], Some, None, refl}
+use Rattle.std.proofs.Common.{rules, ◌≡◌, ◌∙◌, [], Some}
 use Rattle.dn_gate.proofs.tests.one_pass_submits_closes_and_collects.Goals as goal
 
 pub collect-requires-clause-closing : goal.collect-requires-clause-closing

@@ -18,15 +18,14 @@ returns-then-marked-closing-clause-whole g c = λ all.
 pub returns-clause-history : goal.returns-clause-history
 returns-clause-history g c = λ all.
     is_history c.args.pass.now (settled_view c.pass.inside.seat.table_id c.pass.inside.seat.id c.pass.inside.seat.me c.args.pass.now c.pass.view_is
-        (settled (step c.self.inside.table.shared.table_id.slots 0 0 0 none) c.pass.inside.seat.table_id c.pass.inside.seat.id c.load.result c.pass.inside.seat.me c.load.new.seat.me c.args.pass.now c.args.self.now c.pass.view_is c.requires.gate c.requires.ready c.load.ensures.2 all))
+    (settled (step c.self.inside.table.shared.table_id.slots 0 0 0 none) c.pass.inside.seat.table_id c.pass.inside.seat.id c.load.result c.pass.inside.seat.me c.load.new.seat.me c.args.pass.now c.args.self.now c.pass.view_is c.requires.gate c.requires.ready c.load.ensures.2 all))
 
 pub returns-in_default-clause-history : goal.returns-in_default-clause-history
 returns-in_default-clause-history g c = λ all.
     is_history c.args.pass.now (settled_view c.pass.inside.seat.table_id c.pass.inside.seat.id c.pass.inside.seat.me c.args.pass.now c.pass.view_is
-        (settled (step c.self.inside.table.shared.table_id.slots 0 0 0 none) c.pass.inside.seat.table_id c.pass.inside.seat.id c.load.result c.pass.inside.seat.me c.load.new.seat.me c.args.pass.now c.args.self.now c.pass.view_is c.requires.gate c.requires.ready c.load.ensures.2 all))
+    (settled (step c.self.inside.table.shared.table_id.slots 0 0 0 none) c.pass.inside.seat.table_id c.pass.inside.seat.id c.load.result c.pass.inside.seat.me c.load.new.seat.me c.args.pass.now c.args.self.now c.pass.view_is c.requires.gate c.requires.ready c.load.ensures.2 all))
 
 pub returns-then-marked-closing-clause-history : goal.returns-then-marked-closing-clause-history
 returns-then-marked-closing-clause-history g c = λ all.
     is_history c.args.pass.now (settled_view c.pass.inside.seat.table_id c.pass.inside.seat.id c.pass.inside.seat.me c.args.pass.now c.pass.view_is
-        (settled (step c.self.inside.table.shared.table_id.slots 0 0 0 none) c.pass.inside.seat.table_id c.pass.inside.seat.id c.load.result c.pass.inside.seat.me c.load.new.seat.me c.args.pass.now c.args.self.now c.pass.view_is c.requires.gate c.requires.ready c.load.ensures.2 all))
-
+    (settled (step c.self.inside.table.shared.table_id.slots 0 0 0 none) c.pass.inside.seat.table_id c.pass.inside.seat.id c.load.result c.pass.inside.seat.me c.load.new.seat.me c.args.pass.now c.args.self.now c.pass.view_is c.requires.gate c.requires.ready c.load.ensures.2 all))

@@ -42,4 +42,4 @@ pub returns-clause-order : goal.returns-clause-order
 returns-clause-order g c =
     let w = c.other.inside.seat.me.0 in
     subst (λ (q : List Draw × List Draw). IsMerge c.load.new.seat.me.0.draws q.0 q.1) (λ j. (ap (λ p. p.draws) c.pass.view_is j, ap (λ p. p.draws) c.other.view_is j))
-        (merged_order c.load.new.seat.me.0.draws c.pass.inside.seat.me.0.draws w.draws c.pass.invariant.ascends (ap (λ (m : At g.row.T.Denot). m.0.draws) (c.load.ensures.2.0 ∙ c.join_seat.ensures.2)))
+    (merged_order c.load.new.seat.me.0.draws c.pass.inside.seat.me.0.draws w.draws c.pass.invariant.ascends (ap (λ (m : At g.row.T.Denot). m.0.draws) (c.load.ensures.2.0 ∙ c.join_seat.ensures.2)))

@@ -45,12 +45,12 @@ returns-clause-fresh g c =
 
 pub returns-clause-new : goal.returns-clause-new
 returns-clause-new g c = all_at (IsFresh _) (IsNew _) (new_of _) c.push_reserved-2.new.self.items (
-        let i = c.loop-number.invariant in
-        let n : ℕ = c.loop-number.number in
-        let table = c.in_ok-table.table.shared.table_id in
-        let id : GateId = record { table = table; clients = c.args.clients; passes = c.args.passes; before = numbers_of c.args.before.now } in
-        let one : range n (c.args.passes - n) ≡ n ∷ [] = range_one n (c.args.passes - n) (omega arith) in
-        let last = made_fresh table c.loop-number.first.table_id c.loop-number.first.id c.args.passes c.args.clients n (numbers_of c.args.before.now) c.loop-number.first.me i.table (i.first ∙ ap (λ ns. (idle_view c.args.passes c.args.clients (numbers_of c.args.before.now) ns, [])) one) in
-        subst (λ (q : GateId). (k : ℕ) → IfSome (slice_get c.push_reserved-2.new.self.items k) (IsFresh q k)) (λ j. record { table = table; clients = sym i.clients j; passes = sym i.passes j; before = numbers_of (sym i.before j) })
-        (subst (λ xs. (k : ℕ) → IfSome (slice_get xs k) (IsFresh id k)) (sym c.push_reserved-2.ensures.items) (all_more _ _ _ _ i.long i.all last))
+    let i = c.loop-number.invariant in
+    let n : ℕ = c.loop-number.number in
+    let table = c.in_ok-table.table.shared.table_id in
+    let id : GateId = record { table = table; clients = c.args.clients; passes = c.args.passes; before = numbers_of c.args.before.now } in
+    let one : range n (c.args.passes - n) ≡ n ∷ [] = range_one n (c.args.passes - n) (omega arith) in
+    let last = made_fresh table c.loop-number.first.table_id c.loop-number.first.id c.args.passes c.args.clients n (numbers_of c.args.before.now) c.loop-number.first.me i.table (i.first ∙ ap (λ ns. (idle_view c.args.passes c.args.clients (numbers_of c.args.before.now) ns, [])) one) in
+    subst (λ (q : GateId). (k : ℕ) → IfSome (slice_get c.push_reserved-2.new.self.items k) (IsFresh q k)) (λ j. record { table = table; clients = sym i.clients j; passes = sym i.passes j; before = numbers_of (sym i.before j) })
+    (subst (λ xs. (k : ℕ) → IfSome (slice_get xs k) (IsFresh id k)) (sym c.push_reserved-2.ensures.items) (all_more _ _ _ _ i.long i.all last))
     )

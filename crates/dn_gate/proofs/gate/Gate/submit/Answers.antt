@@ -1,4 +1,4 @@
-use Rattle.std.proofs.Common.{rules, arith, ℕ, refl, sym, ap, ◌∙◌, ◌≡◌, ◌++◌, ◌∷◌, [], Some, None}
+use Rattle.std.proofs.Common.{arith, ℕ, refl, sym, ap, ◌∙◌, ◌≡◌, ◌++◌, ◌∷◌, [], Some, None}
 use Rattle.dn_gate.specs.Pass.{included, came_late, PassView}
 use Rattle.dn_gate.proofs.gate.Gate.submit.Goals as goal
 
