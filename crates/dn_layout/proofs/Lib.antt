@@ -1,2 +1,4 @@
 pub mod LayoutLemmas
 pub mod MaskLemmas
+pub mod RangeLemmas
+pub mod RoundTrip

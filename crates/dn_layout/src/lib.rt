@@ -3,12 +3,14 @@
 //! block's bytes are and what bytes are read as.
 #![tactic(auto)]
 
+mod laws;
 mod layout;
 mod mask;
 mod plain;
 mod reading;
 mod writing;
 
+pub use laws::{block_round_trip, ranges_part_the_round};
 pub use layout::Layout;
 pub use reading::{Block, read_block};
 pub use writing::{BlockFault, block};
