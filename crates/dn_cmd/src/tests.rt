@@ -47,6 +47,69 @@ const SUMS: [(&str, &str, &str); 3] = [
     ),
 ];
 
+/// The same where the script has a window.
+const WINDOWS: [(&str, &str, &str); 5] = [
+    (
+        "2 1 8",
+        "submit 1\nend\n",
+        "dissent-plain 1\ntold 1 included\nclosed 0 1\nc 1 12\ns 0 00\nout 00\n",
+    ),
+    (
+        "1 1 8",
+        "submit 0\ntick 1\nclose\nend\n",
+        "dissent-plain 1\ntold 0 included\nclosed 1 1\nignored shut\nc 0 1a\ns 0 00\nout 00\n",
+    ),
+    (
+        "2 1 8",
+        "submit 0\nsubmit 0\ntick 100\nsubmit 1\nend\n",
+        "dissent-plain 1\ntold 0 included\ntold 0 repeat\nclosed 100 1\ntold 1 late\nc 0 1a\ns 0 00\nout 00\n",
+    ),
+    (
+        "2 1 8",
+        "say 0 80\nsubmit 1\nend\n",
+        "dissent-plain 1\ntold 1 included\nclosed 0 1\nc 1 12\ns 0 00\nout 00\n",
+    ),
+    (
+        "2 1 8",
+        "say 1 ff\nclose\nsubmit 0\nsubmit 0\nclose\nend\n",
+        "dissent-plain 1\nclosed 0 0\ntold 0 late\ntold 0 repeat\nignored shut\ns 0 00\nout 00\n",
+    ),
+];
+
+#[test]
+fn windows_are_written(rt: HostRuntime) -> Result<(), Fail> {
+    for (first, more, due) in WINDOWS {
+        let (status, output) = answer(&rt, rt.alloc(), first, more)?;
+        assert_eq!(rt; status, Status::Ok);
+        assert_eq!(rt; output.as_slice(), due.as_bytes());
+    }
+    Ok(())
+}
+
+/// The script in which 18 of 20 clients submit, ten ticks pass, and then what is here follows.
+fn twenty<R: Threads + Wait + Sync>(rt: &R, alloc: Global, more: &str) -> Result<Vec<u8>, Fail> {
+    let mut lines = String::new(alloc);
+    for client in 0..18u32 {
+        write!(lines, "submit {client}\n")?;
+    }
+    lines.push_str("tick 10\n")?;
+    lines.push_str(more)?;
+    let (_, output) = answer(rt, alloc, "20 1 8", lines.as_str())?;
+    Ok(output)
+}
+
+#[test]
+fn a_window_of_twenty_closes_at_tick_eleven(rt: HostRuntime) -> Result<(), Fail> {
+    let alloc = rt.alloc();
+    let one_late = twenty(&rt, alloc, "submit 18\ntick 1\nsubmit 19\nend\n")?;
+    let told = b"told 18 included\nclosed 11 19\ntold 19 late\nc 0 1a\n".as_slice();
+    assert!(rt; one_late.windows(told.len()).any(|part| part == told));
+    let all = twenty(&rt, alloc, "submit 18\nsubmit 19\ntick 1\nend\n")?;
+    let told = b"told 18 included\ntold 19 included\nclosed 11 20\nc 0 1a\n".as_slice();
+    assert!(rt; all.windows(told.len()).any(|part| part == told));
+    Ok(())
+}
+
 #[test]
 fn sums_are_written(rt: HostRuntime) -> Result<(), Fail> {
     for (first, more, due) in SUMS {
@@ -58,7 +121,9 @@ fn sums_are_written(rt: HostRuntime) -> Result<(), Fail> {
 }
 
 /// The first line's numbers, the further lines, the first bad line and its cause.
-const FAULTS: [(&str, &str, u64, Cause); 5] = [
+const FAULTS: [(&str, &str, u64, Cause); 7] = [
+    ("2 1 8", "tick 101\nend\n", 2, Cause::Unbuilt),
+    ("2 1 8", "submit 2\nend\n", 2, Cause::Unbuilt),
     ("1 1 8", "say 0 01\nsay 0 01\nend\n", 3, Cause::Unbuilt),
     ("1 1 9", "say 0 ff81\nend\n", 2, Cause::Unbuilt),
     ("1 1 8", "say 0 FF\nend\n", 2, Cause::Unbuilt),

@@ -1,4 +1,4 @@
-use Rattle.std.proofs.Common.{◌≡◌, ◌+◌, length, drop, replicate, false, sym, subst, arith, rules}
+use Rattle.std.proofs.Common.{◌≡◌, ◌+◌, length, drop, replicate, false, sym, subst, arith}
 use Rattle.std.proofs.lemmas.List.{with_items_is}
 use Rattle.dn_cmd.specs.Window.{IsAt}
 use Rattle.dn_cmd.proofs.WindowLemmas.{HasMet, at_start, met_none, met_more}
@@ -6,7 +6,8 @@ use Rattle.dn_cmd.proofs.window.meet_all.Goals as goal
 
 pub loop-line-init : goal.loop-line-init
 loop-line-init c =
-    let none : c.in_ok-marks.marks.items ≡ replicate c.args.clients false = search rules in
+    let none : c.in_ok-marks.marks.items ≡ replicate c.args.clients false =
+    c.in_ok-marks.ensures.items_if_clones_equal (λ y h. h) in
     met_none c.args.clients c.args.lines.now c.in_ok-window.window c.in_ok-marks.marks.items c.args.text.now.items
     (at_start c.args.clients c.in_ok-window.window c.in_ok-marks.marks.items c.in_ok-window.ensures.opened c.in_ok-window.ensures.history none)
 
