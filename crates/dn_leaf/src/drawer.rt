@@ -111,7 +111,7 @@ impl Drawer {
         requires { pass.old.drawer ≡ self.now }
         ensures pass { IsSamePass pass.old pass.new × (pass.new.draws ≡ pass.old.draws) }
         ensures seen { pass.new.seen ≡ first_seen pass.old.seen (past_count self.now.count result) }
-        ensures later { IfSome pass.old.seen (λ n. n ≤ result) }
+        ensures past { IfSome pass.new.seen (λ n. (self.now.count ≤ n) × (n ≤ result)) }
         ensures bound { result ≤ self.now.count + self.now.passes }
 
         // What the pass drew is below what it finds, and a pass that stands for all has drawn all of that.
