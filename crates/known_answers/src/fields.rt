@@ -1,12 +1,18 @@
 // The fields of a line, and what is spelled in them.
 
-use anyhow::{Context, Result};
+use anyhow::{Context, Result, ensure};
 use hex::FromHex;
 use std::alloc::{AllocError, Global};
+use std::error::Error;
+use std::str::FromStr;
 
-/// The fields of a line, with one space between two of them.
-pub fn split<'a>(alloc: Global, line: &'a str) -> Result<Vec<&'a str>, AllocError> {
-    line.split(' ').collect(alloc)
+/// The fields of a text, with one separator between two of them.
+pub fn split<'a>(
+    alloc: Global,
+    text: &'a str,
+    separator: char,
+) -> Result<Vec<&'a str>, AllocError> {
+    text.split(separator).collect(alloc)
 }
 
 /// The field at a place.
@@ -14,20 +20,15 @@ pub fn text<'a>(fields: &[&'a str], place: usize) -> Result<&'a str> {
     Ok(*fields.get(place).context("a field is missing")?)
 }
 
-/// The number of at most 32 bits at a place.
-pub fn u32_at(fields: &[&str], place: usize) -> Result<u32> {
+/// The number at a place.
+pub fn number_at<T: FromStr>(fields: &[&str], place: usize) -> Result<T>
+where
+    T::Err: Error,
+{
     let field = text(fields, place)?;
     field
-        .parse::<u32>()
-        .context(format_args!("field {place} is no number"))
-}
-
-/// The number of at most 64 bits at a place.
-pub fn u64_at(fields: &[&str], place: usize) -> Result<u64> {
-    let field = text(fields, place)?;
-    field
-        .parse::<u64>()
-        .context(format_args!("field {place} is no number"))
+        .parse::<T>()
+        .context(format_args!("field {place} is no such number"))
 }
 
 /// The bytes at a place: hex, or `-` for none.
@@ -45,4 +46,16 @@ pub fn array_at<const N: usize>(fields: &[&str], place: usize) -> Result<[u8; N]
     <[u8; N] as FromHex>::from_hex(field).context(format_args!(
         "field {place} is no hex of {N} bytes"
     ))
+}
+
+/// No field stands at a place or after it.
+pub fn end_at(fields: &[&str], place: usize) -> Result<()> {
+    ensure!(fields.len() <= place, "a field too many");
+    Ok(())
+}
+
+/// Whether the last field, at this place, has these bytes.
+pub fn ends_in(alloc: Global, fields: &[&str], place: usize, bytes: &[u8]) -> Result<bool> {
+    end_at(fields, place.saturating_add(1))?;
+    Ok(bytes_at(alloc, fields, place)?.as_slice() == bytes)
 }

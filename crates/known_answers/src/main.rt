@@ -6,8 +6,17 @@
 //! with 1 otherwise. No part of the product.
 #![tactic(auto)]
 
+mod block;
+mod dealing;
+mod digests;
 mod fields;
+mod layout;
+mod lms;
+mod memory;
 mod pad;
+mod record;
+mod roster;
+mod window;
 
 use anyhow::{Context, Result, bail};
 use std::alloc::Global;
@@ -16,10 +25,22 @@ use std::process::ExitCode;
 
 /// Whether a line's value is the one that is computed. An error is a line that can't be read.
 fn passes(alloc: Global, line: &str) -> Result<bool> {
-    let fields = fields::split(alloc, line)?;
+    let fields = fields::split(alloc, line, ' ')?;
     let (word, rest) = fields.split_first().context("an empty line")?;
     match *word {
         "pad" => pad::passes(alloc, rest),
+        "seed_commitment"
+        | "cipher_digest"
+        | "server_digest"
+        | "mask_key"
+        | "block_check"
+        | "mask_seed" => digests::passes(alloc, word, rest),
+        "window" => window::passes(alloc, rest),
+        "layout" => layout::passes(alloc, rest),
+        "block" | "read" => block::passes(alloc, word, rest),
+        "key" | "sig" | "no" | "lms" => lms::passes(alloc, word, rest),
+        "statement" | "envelope" | "payload" => record::passes(alloc, word, rest),
+        "dealt" => dealing::passes(alloc, rest),
         _ => bail!("no such word: {word}"),
     }
 }

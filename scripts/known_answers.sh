@@ -1,0 +1,36 @@
+#!/usr/bin/env bash
+# Compares known values, in files beside the repository, with what the proved crates compute. Nothing here is needed to
+# build or prove.
+#
+# usage: scripts/known_answers.sh [FOLDER]      by default ../shared/vectors/known beside the repository
+#
+# To add a file: its name below, once crates/known_answers reads all its lines.
+set -euo pipefail
+top=$(cd "$(dirname "$0")/.." && pwd)
+folder=${1:-$top/../shared/vectors/known}
+files='pads.txt digests.txt window.txt layout.txt blocks.txt lms.txt bouncy_castle_lms.txt records.txt dealing.txt'
+
+if [ ! -d "$folder" ]; then
+    echo "known answers: skipped, no folder $folder"
+    exit 0
+fi
+program=$top/crates/known_answers/out/known_answers
+log=$(mktemp)
+trap 'rm -f "$log"' EXIT
+(cd "$top/crates/known_answers" && rt run < stdin > "$log" 2>&1) || { cat "$log" >&2; exit 1; }
+
+failed=0
+for file in $files; do
+    if [ ! -f "$folder/$file" ]; then
+        echo "$file: skipped, not in $folder"
+        continue
+    fi
+    status=0
+    "$program" < "$folder/$file" > "$log" || status=$?
+    if [ "$status" -ne 0 ]; then
+        failed=1
+        sed "\$d; s/^/$file: /" "$log"
+    fi
+    echo "$file: $(tail -1 "$log")"
+done
+exit "$failed"
