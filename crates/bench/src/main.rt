@@ -1,35 +1,54 @@
 //! Single operations for `scripts/bench.sh` to time. No part of the product.
 //!
-//! Its words are the name of a measure and the measure's numbers. It prints one line that depends on all that was
-//! computed, so that it can be compared with what another program prints.
+//! Its words are the name of a measure and the measure's numbers. It prints lines that depend on all that was computed,
+//! so that they can be compared with what another program prints.
 #![tactic(auto)]
 
+mod lms;
 mod pads;
+mod records;
 
 use anyhow::{Context, Result, bail};
-use std::alloc::Global;
 use std::env;
+use std::str::FromStr;
 
 /// The number that stands at a place among the words.
-fn number(words: &[String], place: usize) -> Result<u32> {
+fn number<T: FromStr>(words: &[String], place: usize) -> Result<T>
+where
+    T::Err: std::error::Error,
+{
     let word = words.get(place).context("too few words")?;
     word.as_str()
-        .parse::<u32>()
+        .parse::<T>()
         .context(format_args!("reading {word:?}"))
 }
 
-/// The line of the measure that the words ask for.
-fn measure(alloc: Global, words: &[String]) -> Result<String> {
+/// The lines of the measure that the words ask for.
+fn measure(rt: &HostRuntime, words: &[String]) -> Result<String> {
+    let alloc = rt.alloc();
     let name = words.first().context("no measure")?;
-    if name.as_str() == "pads" {
-        return pads::line(
+    match name.as_str() {
+        "pads" => pads::line(
             alloc,
             number(words, 1)?,
             number(words, 2)?,
             number(words, 3)?,
-        );
+        ),
+        "lms" => lms::lines(
+            rt,
+            alloc,
+            number(words, 1)?,
+            number(words, 2)?,
+            number(words, 3)?,
+        ),
+        "records" => records::line(
+            alloc,
+            number(words, 1)?,
+            number(words, 2)?,
+            number(words, 3)?,
+        ),
+        name => bail!("no measure {name:?}"),
     }
-    bail!("no measure {name:?}")
 }
 
 fn main(rt: HostRuntime) -> Result<()> {
@@ -37,7 +56,7 @@ fn main(rt: HostRuntime) -> Result<()> {
     for word in env::args(&rt)?.skip(1) {
         words.push(word)?;
     }
-    let line = measure(rt.alloc(), &words)?;
+    let line = measure(&rt, &words)?;
     println!(rt; "{line}")?;
     Ok(())
 }
