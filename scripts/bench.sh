@@ -7,7 +7,8 @@
 #        librust-rand-core-dev and librust-hex-dev
 #
 # To add a measure: a module in crates/bench with a line in its main, the same measure as words of the plain Rust
-# program, and a line 'compare' below.
+# program, and a line 'compare' below. SHA-256 is compared with the scalar code of the package sha2, its feature
+# force-soft: the processor's own instructions for it aren't used in the proved builds.
 set -euo pipefail
 top=$(cd "$(dirname "$0")/.." && pwd)
 peer_sources=${PEER:-$top/../shared/peers/rust_baseline}
@@ -72,12 +73,60 @@ compare() { # NAME LIMIT OUR-WORDS PEER-WORDS
     at_most "$ratio" "$2" || broken=1
 }
 
+# Runs both programs on the same words in turn, compares what they print, and prints how many times as long ours takes
+# for each of the parts that both tell on standard error as 'NAME SECONDS NAME SECONDS ..'.
+compare_parts() { # NAME 'PART=LIMIT ..' WORDS
+    python3 - "$1" "$2" "$bench" "$peer" "$3" <<'END' || broken=1
+import subprocess, sys
+name, limits, ours, theirs, words = sys.argv[1:]
+limits = {part: float(limit) for part, limit in (pair.split("=") for pair in limits.split())}
+def run(program):
+    done = subprocess.run([program, *words.split()], capture_output=True, text=True, check=True)
+    fields = done.stderr.split()
+    return done.stdout, {part: float(seconds) for part, seconds in zip(fields[::2], fields[1::2])}
+def least(runs):
+    return {part: min(parts[part] for _, parts in runs) for part in runs[0][1]}
+programs = [program for program in (ours, theirs) if program]
+runs = [[run(program) for program in programs] for _ in range(7)]
+mine = least([row[0] for row in runs])
+if not theirs:
+    print(f"{name}: " + ", ".join(f"{part} {seconds:.6f} s" for part, seconds in mine.items())
+          + " (no plain Rust to compare with)")
+    sys.exit(0)
+if len({text for row in runs for text, _ in row}) != 1:
+    sys.exit(f"{name}: the two programs print different lines")
+plain = least([row[1] for row in runs])
+broken = False
+for part, seconds in mine.items():
+    ratio = round(seconds / plain[part], 2)
+    holds = ratio <= limits[part]
+    broken = broken or not holds
+    print(f"{name}, {part}: {seconds:.6f} s, plain Rust {plain[part]:.6f} s: {ratio:.2f} times, "
+          f"at most {limits[part]:g}: {'holds' if holds else 'BROKEN'}")
+sys.exit(broken)
+END
+}
+
+# Times one measure of ours, and prints how many MB a second it reads. Its line begins with the number of bytes.
+rate() { # NAME LEAST-MB-A-SECOND OUR-WORDS
+    local seconds bytes mb
+    seconds=$(measured 5 /dev/null "$work/ours" "$bench" $3)
+    bytes=$(cut -d' ' -f1 "$work/ours")
+    mb=$(python3 -c 'import sys; print("%d" % (int(sys.argv[1]) / 1e6 / float(sys.argv[2])))' "$bytes" "${seconds% *}")
+    if at_most "$2" "$mb"; then
+        echo "$1: $mb MB a second, at least $2: holds"
+    else
+        echo "$1: $mb MB a second, at least $2: BROKEN"
+        broken=1
+    fi
+}
+
 peer=
 if [ ! -d "$peer_sources" ]; then
     echo "plain Rust: skipped, no folder $peer_sources"
 else
     cp -r "$peer_sources" "$work/peer"
-    if (cd "$work/peer" && ./build.sh > "$work/peer.log" 2>&1); then
+    if (cd "$work/peer" && ./build.sh --features soft > "$work/peer.log" 2>&1); then
         peer=$work/peer/target/release/rust_baseline
     else
         echo "plain Rust: skipped, it can't be built here: $(tail -1 "$work/peer.log")"
@@ -86,6 +135,8 @@ fi
 bench=$(built bench)
 
 compare '512 pads of 65,536 bits, 20 times' 3 'pads 512 65536 20' 'pads 512 8192 20'
+compare_parts 'LMS of height 10 with digits of four bits' 'make=0.55 sign=1 verify=1' 'lms 6 3 2000'
+rate '1,000 inventories of 100 entries with signatures of 1,292 bytes' 200 'records 1000 100 1292'
 
 # The greatest plain round: every other client says something, so that the script stays within its limit.
 if [ -d "$top/crates/dissent" ]; then
