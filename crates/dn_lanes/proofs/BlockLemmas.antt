@@ -1,8 +1,7 @@
 -- A message of 55 bytes and its padding are one block, and a lane's words are its state's.
-use Rattle.std.proofs.Common.{◌≡◌, ℕ, zero, suc, ◌+◌, ◌-◌, ◌*◌, ◌/◌, ◌%◌, ◌<◌, ◌≤◌, List, [], ◌∷◌, ◌++◌, length, take, drop, slice_index, refl, sym, ap, subst, ◌∙◌, arith, length-append}
+use Rattle.std.proofs.Common.{◌≡◌, ℕ, zero, suc, ◌/◌, ◌<◌, List, [], ◌∷◌, ◌++◌, length, slice_index, refl, sym, ap, ◌∙◌, arith, length-append}
 use Rattle.std.proofs.lemmas.List.{take_all, take_at, drop_at, append-nil}
 use Rattle.sha2.specs.Sha256.{compress, digest_bytes, hash_after, initial_hash_256, padded_message, padding, sha256}
-use Rattle.rand_chacha.proofs.LaneLemmas.{below_four}
 use Rattle.dn_lanes.specs.Lanes.{lane8, lane_at}
 use borrow.Rule.Slice.PartMut.{put_mid}
 

@@ -1,5 +1,5 @@
 -- Pieces appended one after another.
-use Rattle.std.proofs.Common.{◌≡◌, ℕ, List, [], ◌++◌, refl, ◌∙◌, ap}
+use Rattle.std.proofs.Common.{◌≡◌, ℕ, List, [], ◌++◌, refl}
 
 -- four pieces
 pub four_pieces : (v u x y z a b c d : List ℕ) → v ≡ [] → u ≡ v ++ a → x ≡ u ++ b → y ≡ x ++ c → z ≡ y ++ d → z ≡ ((a ++ b) ++ c) ++ d

@@ -1,17 +1,16 @@
 -- A tree filled level by level, and a path read from it.
-use Rattle.std.proofs.Common.{◌≡◌, ◌≢◌, ℕ, zero, suc, ◌+◌, ◌-◌, ◌*◌, ◌/◌, ◌%◌, ◌^◌, ◌<◌, ◌≤◌, List, [], ◌++◌, length, get_or, refl, sym, ap, ◌∙◌, ⊎_elim, arith, lit<, lit≤, add-one}
+use Rattle.std.proofs.Common.{◌≡◌, ◌≢◌, ℕ, zero, suc, ◌+◌, ◌-◌, ◌*◌, ◌/◌, ◌%◌, ◌^◌, ◌<◌, ◌≤◌, List, [], length, get_or, refl, ap, ◌∙◌, ⊎_elim, arith, lit<, lit≤}
 use Rattle.std.proofs.Math.Nat.{pow-suc, div-one}
 use Rattle.std.proofs.Math.Pow.{pow_mono}
 use Rattle.std.proofs.Math.ListN.{set}
-use Rattle.std.proofs.lemmas.List.{length-set, get_or-set_same, get_or-set_other, append_assoc, append-nil}
+use Rattle.std.proofs.lemmas.List.{length-set, get_or-set_same, get_or-set_other}
 use Rattle.std.proofs.lemmas.Nat.{pow_pos}
 use Rattle.std.proofs.lemmas.Bool.{cases_lt}
-use Rattle.dn_ots.specs.Ots.{joined, ots_public}
-use Rattle.dn_ots.proofs.KeyLemmas.{joined_none, joined_more}
-use Rattle.dn_lms.specs.Key.{Key, IsLms, height, leaves_of, leaf_count}
+use Rattle.dn_ots.specs.Ots.{ots_public}
+use Rattle.dn_lms.specs.Key.{Key, height, leaves_of, leaf_count}
 use Rattle.dn_lms.specs.Tree.{node, root, inner_hash, leaf_hash, path_node, sibling}
 use Rattle.dn_lms.specs.Filled.{StandsAt, HasAbove, HasLeaves, HasTree}
-use Rattle.dn_lms.specs.Laws.{sizes, leaf_node, sibling_even, sibling_odd, half}
+use Rattle.dn_lms.specs.Laws.{leaf_node, sibling_even, sibling_odd, half}
 
 -- a value written at place r + k, with those written before it
 pub written_more : (tree : List (List ℕ)) (f : ℕ → List ℕ) (x : List ℕ) (r k : ℕ) → r + k < length tree → x ≡ f k

@@ -1,13 +1,13 @@
 -- What a key signs verifies under its public key.
-use Rattle.std.proofs.Common.{◌≡◌, ℕ, zero, suc, ◌+◌, ◌-◌, ◌*◌, ◌/◌, ◌%◌, ◌^◌, ◌<◌, ◌≤◌, List, [], ◌∷◌, ◌++◌, length, take, drop, refl, sym, ap, ◌∙◌, ⊎_elim, arith, length-append, lit<, lit≤, add-one}
+use Rattle.std.proofs.Common.{◌≡◌, ℕ, zero, suc, ◌+◌, ◌-◌, ◌*◌, ◌/◌, ◌%◌, ◌^◌, ◌<◌, ◌≤◌, List, [], ◌++◌, length, take, drop, refl, sym, ap, ◌∙◌, ⊎_elim, arith, length-append, lit<, lit≤, add-one}
 use Rattle.std.proofs.Math.Nat.{div-div-eq-div-mul, pow-suc, div-one}
-use Rattle.std.proofs.lemmas.List.{append_assoc, append-nil, take_at, drop_at, take-append-le, length-drop, drop-drop}
+use Rattle.std.proofs.lemmas.List.{append_assoc, append-nil, take_at, drop_at, take-append-le, drop-drop}
 use Rattle.std.proofs.lemmas.Nat.{from_be_bytes-to_be_bytes_4, div-mul-add}
 use Rattle.std.proofs.lemmas.Bool.{cases_lt}
 use Rattle.std.specs.Int.{w32, to_be_bytes, from_be_bytes}
 use Rattle.sha2.proofs.Facts256.{length-sha256}
 use Rattle.dn_ots.specs.Parameters.{IsCode, ots_length}
-use Rattle.dn_ots.specs.Ots.{joined, ots_public, ots_signature, ots_candidate}
+use Rattle.dn_ots.specs.Ots.{joined, ots_public, ots_signature}
 use Rattle.dn_ots.proofs.KeyLemmas.{length-joined, part-joined, length-ots_signature, take-ots_signature, ots_candidate-ots_signature}
 use Rattle.dn_lms.specs.Key.{Key, IsKey, IsLms, height, leaves_of, leaf_count}
 use Rattle.dn_lms.specs.Tree.{node, root, inner_hash, leaf_hash, path_node, path_part, rise, climb, sibling}

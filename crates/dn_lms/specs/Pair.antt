@@ -1,5 +1,4 @@
 -- A key pair's fields, and what contracts see of them.
-use Rattle.std.specs.Prelude.{ℕ}
 use Rattle.dn_lms.specs.Key.{Key, IsKey}
 use Rattle.dn_lms.specs.Filled.{HasTree}
 use Rattle.dn_lms.specs.declared.pair.KeyPair.TheInside.{Inside}

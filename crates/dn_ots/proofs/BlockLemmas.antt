@@ -1,6 +1,6 @@
 -- A part put into a block.
-use Rattle.std.proofs.Common.{◌≡◌, ℕ, ◌+◌, ◌<◌, ◌≤◌, zero, suc, List, [], ◌∷◌, ◌++◌, length, take, drop, refl, sym, ap, ◌∙◌, arith, length-append, add-one}
-use Rattle.std.proofs.lemmas.List.{take_at, drop_at, take-take, take-append-le, drop-append-le, drop_all, append-nil, append_assoc, length-take-le, length-drop, set_split, length-set, take-set-le}
+use Rattle.std.proofs.Common.{◌≡◌, ℕ, ◌+◌, ◌<◌, ◌≤◌, zero, suc, List, ◌++◌, length, take, drop, ap, ◌∙◌, arith, length-append}
+use Rattle.std.proofs.lemmas.List.{take_at, drop_at, take-take, take-append-le, drop_all, append-nil, append_assoc, length-take-le, set_split, take-set-le}
 use Rattle.std.proofs.Math.ListN.{set}
 use Rattle.sha2.specs.Sha256.{sha256}
 use Rattle.dn_ots.specs.Chain.{chain_step}

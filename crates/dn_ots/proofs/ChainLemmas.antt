@@ -1,5 +1,5 @@
 -- Chains, step by step and joined.
-use Rattle.std.proofs.Common.{◌≡◌, ℕ, zero, suc, ◌+◌, ◌-◌, ◌<◌, ◌≤◌, List, length, refl, sym, ap, ◌∙◌, arith, add-one, add-zero}
+use Rattle.std.proofs.Common.{◌≡◌, ℕ, zero, suc, ◌+◌, List, length, refl, arith, add-one, add-zero}
 use Rattle.sha2.proofs.Facts256.{length-sha256}
 use Rattle.dn_ots.specs.Chain.{chain, chain_step, chain_start}
 

@@ -1,9 +1,9 @@
 -- Digits and their sum.
-use Rattle.std.proofs.Common.{◌≡◌, ℕ, zero, suc, ◌+◌, ◌-◌, ◌*◌, ◌/◌, ◌%◌, ◌^◌, ◌<◌, ◌≤◌, List, get_or, refl, sym, ap, ◌∙◌, arith, add-one}
+use Rattle.std.proofs.Common.{◌≡◌, ℕ, zero, suc, ◌+◌, ◌-◌, ◌*◌, ◌/◌, ◌%◌, ◌^◌, ◌<◌, ◌≤◌, List, get_or, refl, arith, add-one}
 use Rattle.std.proofs.lemmas.Nat.{and_mask}
 use Rattle.std.specs.Prelude.{bit_and}
 use Rattle.dn_ots.specs.Parameters.{IsCode, width, last_step, shift}
-use Rattle.dn_ots.specs.Digits.{coef, sum_below, checksum}
+use Rattle.dn_ots.specs.Digits.{coef, sum_below}
 use Rattle.dn_ots.proofs.ParameterLemmas.{by_code}
 
 -- a digit by shift and mask

@@ -1,6 +1,6 @@
 -- Joined chains, and a signature's parts.
 use Rattle.std.proofs.Common.{◌≡◌, ℕ, zero, suc, ◌+◌, ◌-◌, ◌*◌, ◌<◌, ◌≤◌, List, [], ◌∷◌, ◌++◌, length, take, drop, refl, sym, ap, ◌∙◌, arith, add-one, length-append, ⊎_elim, lit≤}
-use Rattle.std.proofs.lemmas.List.{append_assoc, take_at, drop_at, take-append-le, drop-append-le, append-nil, drop-drop, length-drop, take_all, take-take}
+use Rattle.std.proofs.lemmas.List.{append_assoc, take_at, drop_at, append-nil, drop-drop, length-drop, take_all, take-take}
 use Rattle.std.proofs.lemmas.Bool.{cases_lt}
 use Rattle.std.specs.Int.{w16, w32, to_be_bytes}
 use Rattle.sha2.specs.Sha256.{sha256}
@@ -11,7 +11,6 @@ use Rattle.dn_ots.specs.Parameters.{IsCode, width, last_step, chain_count, ots_l
 use Rattle.dn_ots.specs.Chain.{leaf_head, chain_head, chain, chain_step, chain_start}
 use Rattle.dn_ots.specs.Digits.{coef, with_checksum}
 use Rattle.dn_ots.specs.Ots.{joined, key_of_ends, ots_public, ots_signature, ots_candidate, randomizer, message_hash, digit, randomizer_in, value_in, chain_rest}
-use Rattle.dn_ots.proofs.ParameterLemmas.{limits}
 use Rattle.dn_ots.proofs.ChainLemmas.{chain_to_end, length-chain, length-chain_start}
 use Rattle.dn_ots.proofs.DigitLemmas.{coef_small}
 

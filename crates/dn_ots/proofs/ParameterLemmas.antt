@@ -1,6 +1,6 @@
 -- Facts of the four parameter sets, each by the row.
 use Rattle.std.proofs.Common.{◌≡◌, ℕ, zero, suc, ◌+◌, ◌-◌, ◌*◌, ◌/◌, ◌%◌, ◌^◌, ◌<◌, ◌≤◌, refl, arith, lit<, lit≤}
-use Rattle.dn_ots.specs.Parameters.{IsCode, IsRow, width, last_step, chain_count, shift, ots_length}
+use Rattle.dn_ots.specs.Parameters.{IsCode, width, last_step, chain_count, shift, ots_length}
 
 -- what holds at each of the four codes
 pub by_code : (P : ℕ → Type 0) → P 1 → P 2 → P 3 → P 4 → (code : ℕ) → IsCode code → P code

@@ -5,12 +5,17 @@
 #![tactic(auto)]
 
 mod block;
+mod candidates;
 mod digits;
 mod four;
-mod keys;
+mod hashers;
 mod parameters;
+mod public_keys;
+mod signatures;
 #[cfg(test)]
 mod tests;
 
-pub use keys::{candidate, ots_public, ots_public_four, ots_sign};
+pub use candidates::candidate;
 pub use parameters::{Params, UnknownType};
+pub use public_keys::{ots_public, ots_public_four};
+pub use signatures::ots_sign;

@@ -1,4 +1,3 @@
-use Rattle.std.proofs.Common.{refl, arith}
 use Rattle.dn_lanes.proofs.BlockLemmas.{block_parts}
 use Rattle.dn_lanes.proofs.digest.block_of.Goals as goal
 

@@ -1,6 +1,5 @@
-use Rattle.std.proofs.Common.{◌≡◌, lit<}
+use Rattle.std.proofs.Common.{lit<}
 use Rattle.rand_chacha.proofs.LaneLemmas.{below_four}
-use Rattle.dn_lanes.specs.Lanes.{lane8}
 use Rattle.dn_lanes.proofs.BlockLemmas.{lane_digest}
 use Rattle.dn_lanes.proofs.digest.digest4.Goals as goal
 

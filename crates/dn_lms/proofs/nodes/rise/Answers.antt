@@ -1,4 +1,4 @@
-use Rattle.std.proofs.Common.{◌≡◌, ◌∙◌, ◌%◌, sym, arith}
+use Rattle.std.proofs.Common.{◌∙◌, sym, arith}
 use Rattle.dn_lms.specs.Laws.{rise_even, rise_odd}
 use Rattle.dn_lms.proofs.nodes.rise.Goals as goal
 

@@ -1,4 +1,4 @@
-use Rattle.std.proofs.Common.{◌≡◌, ◌%◌, sym, arith}
+use Rattle.std.proofs.Common.{sym, arith}
 use Rattle.dn_lms.specs.Laws.{sibling_even, sibling_odd}
 use Rattle.dn_lms.proofs.nodes.sibling.Goals as goal
 

@@ -1,10 +1,7 @@
-use Rattle.std.proofs.Common.{◌≡◌, ◌≤◌, ◌<◌, ◌+◌, ◌*◌, ◌/◌, ◌^◌, ◌∙◌, ◌++◌, List, ℕ, length, get_or, [], sym, ap, refl, arith, append-nil}
-use Rattle.std.proofs.lemmas.List.{append_assoc}
-use Rattle.dn_ots.specs.Ots.{joined}
+use Rattle.std.proofs.Common.{◌≡◌, ◌<◌, ◌+◌, ◌/◌, ◌^◌, ◌∙◌, ◌++◌, List, ℕ, get_or, [], ap, refl, arith, append-nil}
 use Rattle.dn_ots.proofs.KeyLemmas.{joined_none, sign_more}
-use Rattle.dn_lms.specs.Key.{Key, height, leaves_of}
-use Rattle.dn_lms.specs.Tree.{node, path_node, sibling}
-use Rattle.dn_lms.specs.Filled.{StandsAt}
+use Rattle.dn_lms.specs.Key.{height, leaves_of}
+use Rattle.dn_lms.specs.Tree.{path_node, sibling}
 use Rattle.dn_lms.specs.Laws.{sizes}
 use Rattle.dn_lms.proofs.TreeLemmas.{way_small, sibling_small, path_node_read}
 use Rattle.dn_lms.proofs.tree.append_path.Goals as goal

@@ -1,4 +1,4 @@
-use Rattle.std.proofs.Common.{◌≡◌, ℕ, ◌+◌, ◌<◌, [], length, get_or}
+use Rattle.std.proofs.Common.{◌≡◌, ℕ, ◌+◌, ◌<◌, [], get_or}
 use Rattle.dn_lms.specs.Tree.{leaf_hash}
 use Rattle.dn_lms.proofs.tree.fill_four.Given as goal
 

@@ -1,4 +1,4 @@
-use Rattle.std.proofs.Common.{◌≡◌, ◌≤◌, ◌+◌, ◌-◌, ◌*◌, ◌/◌, ◌<◌, ◌∙◌, length, refl, arith}
+use Rattle.std.proofs.Common.{◌≡◌, ◌-◌, ◌/◌, ◌∙◌, length, refl, arith}
 use Rattle.std.proofs.lemmas.List.{length-set}
 use Rattle.dn_lms.specs.Laws.{sizes}
 use Rattle.dn_lms.proofs.TreeLemmas.{above_leaves, above_more}

@@ -1,4 +1,4 @@
-use Rattle.std.proofs.Common.{◌≡◌, ℕ, ◌-◌, ◌*◌, ◌/◌, length}
+use Rattle.std.proofs.Common.{◌≡◌, ◌-◌, ◌*◌, length}
 use Rattle.dn_lms.specs.Key.{Key, IsLms, leaves_of}
 use Rattle.dn_lms.specs.Filled.{HasLeaves, HasAbove}
 use Rattle.dn_lms.proofs.tree.fill_inner.Given as goal

@@ -1,4 +1,4 @@
-use Rattle.std.proofs.Common.{◌≡◌, ◌≤◌, ◌+◌, ◌*◌, ◌/◌, ◌%◌, ◌<◌, ◌∙◌, ℕ, length, arith}
+use Rattle.std.proofs.Common.{◌≡◌, ◌*◌, ◌∙◌, arith}
 use Rattle.dn_lms.specs.Key.{Key, leaves_of}
 use Rattle.dn_lms.specs.Laws.{sizes}
 use Rattle.dn_lms.proofs.TreeLemmas.{leaves_more}

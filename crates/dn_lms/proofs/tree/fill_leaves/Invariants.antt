@@ -1,5 +1,5 @@
 use Rattle.std.proofs.Common.{◌≡◌, ℕ, ◌+◌, ◌*◌, ◌<◌, [], get_or}
-use Rattle.dn_lms.specs.Key.{Key, leaves_of}
+use Rattle.dn_lms.specs.Key.{leaves_of}
 use Rattle.dn_lms.specs.Tree.{node}
 use Rattle.dn_lms.proofs.tree.fill_leaves.Given as goal
 

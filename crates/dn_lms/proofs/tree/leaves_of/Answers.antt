@@ -1,5 +1,5 @@
-use Rattle.std.proofs.Common.{◌≡◌, arith}
-use Rattle.dn_lms.specs.Key.{height, leaves_of}
+use Rattle.std.proofs.Common.{arith}
+use Rattle.dn_lms.specs.Key.{leaves_of}
 use Rattle.dn_lms.specs.Laws.{sizes}
 use Rattle.dn_lms.proofs.tree.leaves_of.Goals as goal
 

@@ -1,6 +1,6 @@
-use Rattle.std.proofs.Common.{◌≡◌, ◌≤◌, ◌*◌, ◌∙◌, List, ℕ, length, sym, refl, arith}
+use Rattle.std.proofs.Common.{◌≡◌, ◌∙◌, refl, arith}
 use Rattle.std.proofs.lemmas.List.{take_at}
-use Rattle.dn_lms.specs.Key.{Key, leaves_of}
+use Rattle.dn_lms.specs.Key.{Key}
 use Rattle.dn_lms.specs.Filled.{HasLeaves}
 use Rattle.dn_lms.specs.Laws.{sizes}
 use Rattle.dn_lms.proofs.tree.tree_of.Goals as goal

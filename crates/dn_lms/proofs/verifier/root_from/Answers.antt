@@ -1,8 +1,5 @@
-use Rattle.std.proofs.Common.{◌≡◌, ◌+◌, ◌≤◌, ◌*◌, ◌-◌, ◌/◌, ◌∙◌, ℕ, List, length, take, sym, ap, arith}
-use Rattle.dn_ots.specs.Parameters.{ots_length}
+use Rattle.std.proofs.Common.{◌+◌, ◌/◌, ◌∙◌, ℕ, List, length, take, sym, ap, arith}
 use Rattle.dn_ots.specs.Ots.{ots_candidate}
-use Rattle.dn_ots.proofs.ParameterLemmas.{limits}
-use Rattle.dn_lms.specs.Key.{height}
 use Rattle.dn_lms.specs.Laws.{sizes}
 use Rattle.dn_lms.specs.Signature.{lms_length}
 use Rattle.dn_lms.proofs.VerifyLemmas.{ots_part, length-ots_part, take-ots_part, path_part_is, path_levels, root_is}

@@ -1,6 +1,6 @@
-use Rattle.std.proofs.Common.{◌≡◌, ◌∙◌, ℕ, drop, length, sym, refl, arith}
+use Rattle.std.proofs.Common.{◌≡◌, ◌∙◌, drop, length, sym, refl, arith}
 use Rattle.std.proofs.lemmas.List.{take_rest}
-use Rattle.dn_lms.specs.Signature.{lms_in, ots_in, id_in, root_in}
+use Rattle.dn_lms.specs.Signature.{lms_in, ots_in, id_in}
 use Rattle.dn_lms.specs.Laws.{verifies_by_parts}
 use Rattle.dn_lms.proofs.verifier.verify.Goals as goal
 

@@ -1,5 +1,5 @@
 use Rattle.std.proofs.Common.{arith}
-use Rattle.dn_ots.proofs.BlockLemmas.{take_put, take_before, drop_put}
+use Rattle.dn_ots.proofs.BlockLemmas.{drop_put}
 use Rattle.dn_ots.proofs.block.open_chain.Goals as goal
 
 pub returns-clause-value : goal.returns-clause-value

@@ -1,5 +1,4 @@
 use Rattle.std.proofs.Common.{◌≡◌, ◌+◌, ◌-◌, ◌∙◌, take, drop, refl, arith}
-use Rattle.dn_ots.specs.Chain.{chain, chain_step}
 use Rattle.dn_ots.proofs.ChainLemmas.{chain_none, chain_more}
 use Rattle.dn_ots.proofs.block.run.Goals as goal
 

@@ -1,4 +1,4 @@
-use Rattle.std.proofs.Common.{◌≡◌, ◌∙◌, ℕ, List, length, arith, take}
+use Rattle.std.proofs.Common.{◌∙◌, arith}
 use Rattle.std.proofs.lemmas.List.{take-set-le, length-set}
 use Rattle.std.proofs.Math.ListN.{set}
 use Rattle.dn_ots.proofs.BlockLemmas.{take_before, drop_put, step_of_block}

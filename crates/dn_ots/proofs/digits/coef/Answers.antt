@@ -1,5 +1,4 @@
-use Rattle.std.proofs.Common.{◌≡◌, ◌+◌, ◌*◌, ◌/◌, ◌%◌, ◌≤◌, ◌<◌, arith}
-use Rattle.dn_ots.specs.Parameters.{width}
+use Rattle.std.proofs.Common.{arith}
 use Rattle.dn_ots.proofs.ParameterLemmas.{limits, field_within, fields_in_byte}
 use Rattle.dn_ots.proofs.DigitLemmas.{coef_by_mask}
 use Rattle.dn_ots.proofs.digits.coef.Goals as goal

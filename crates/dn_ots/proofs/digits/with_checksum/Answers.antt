@@ -1,10 +1,10 @@
-use Rattle.std.proofs.Common.{◌≡◌, ◌+◌, ◌*◌, ◌/◌, ◌-◌, ◌^◌, ◌%◌, ◌<◌, ◌≤◌, ◌++◌, ℕ, List, [], ◌∷◌, length, sym, refl, ap, ◌∙◌, arith, append-nil, length-append}
+use Rattle.std.proofs.Common.{◌≡◌, ◌+◌, ◌*◌, ◌/◌, ◌-◌, ◌^◌, ◌%◌, ◌≤◌, ◌++◌, ℕ, List, [], ◌∷◌, length, sym, refl, ap, ◌∙◌, arith, append-nil, length-append}
 use Rattle.std.specs.Int.{w16, to_be_bytes}
 use Rattle.std.proofs.lemmas.List.{take_at, drop_at}
 use borrow.Rule.Slice.PartMut.{put_mid}
-use Rattle.dn_ots.specs.Parameters.{width, last_step, shift}
+use Rattle.dn_ots.specs.Parameters.{width, last_step}
 use Rattle.dn_ots.specs.Digits.{coef, sum_below, checksum, with_checksum}
-use Rattle.dn_ots.proofs.ParameterLemmas.{limits, hash_fields, last_step-small}
+use Rattle.dn_ots.proofs.ParameterLemmas.{limits, hash_fields}
 use Rattle.dn_ots.proofs.DigitLemmas.{coef_small, sum_below_none, sum_below_more, digits_sum_small, checksum_fits}
 use Rattle.dn_ots.proofs.digits.with_checksum.Goals as goal
 

@@ -1,6 +1,5 @@
-use Rattle.std.proofs.Common.{◌≡◌, ◌≤◌, ◌*◌, ◌∙◌, List, ℕ, ◌++◌, length, [], ◌<◌, refl, ap, arith}
+use Rattle.std.proofs.Common.{◌≡◌, ◌∙◌, length, [], ◌<◌, refl, arith}
 use Rattle.std.proofs.lemmas.List.{get_or_read}
-use Rattle.dn_lms.specs.Key.{leaf_count}
 use Rattle.dn_lms.specs.Laws.{sizes}
 use Rattle.dn_lms.specs.Tree.{root}
 use Rattle.dn_lms.specs.Pair.{key_of}

@@ -1,4 +1,4 @@
-use Rattle.std.proofs.Common.{◌≡◌, ◌∙◌, List, ℕ, ◌++◌, refl, ap}
+use Rattle.std.proofs.Common.{◌∙◌, refl}
 use Rattle.dn_ots.specs.Ots.{joined}
 use Rattle.dn_lms.specs.Key.{height}
 use Rattle.dn_lms.specs.Tree.{path_node}

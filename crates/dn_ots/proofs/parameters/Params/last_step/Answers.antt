@@ -1,5 +1,4 @@
-use Rattle.std.proofs.Common.{arith, ◌≤◌}
-use Rattle.dn_ots.specs.Parameters.{width}
+use Rattle.std.proofs.Common.{arith}
 use Rattle.dn_ots.proofs.ParameterLemmas.{limits, last_step-byte}
 use Rattle.dn_ots.proofs.parameters.Params.last_step.Goals as goal
 

@@ -1,10 +1,10 @@
-use Rattle.std.proofs.Common.{◌≡◌, ◌∙◌, ◌+◌, ℕ, List, [], ◌∷◌, lit<, refl, arith}
+use Rattle.std.proofs.Common.{◌≡◌, ◌∙◌, ◌+◌, [], ◌∷◌, lit<, refl, arith}
 use Rattle.std.specs.Prelude.{slice_index_or}
 use Rattle.dn_ots.specs.Ots.{ots_public}
 use Rattle.dn_ots.proofs.ParameterLemmas.{limits}
 use Rattle.dn_ots.proofs.BlockLemmas.{below_four}
 use Rattle.dn_ots.proofs.KeyLemmas.{lane_none, lane_more, lane_all}
-use Rattle.dn_ots.proofs.keys.ots_public_four.Goals as goal
+use Rattle.dn_ots.proofs.public_keys.ots_public_four.Goals as goal
 
 pub overflow_cast-i : goal.overflow_cast-i
 overflow_cast-i c =

@@ -1,7 +1,7 @@
 use Rattle.std.proofs.Common.{◌≡◌, ◌∙◌, true, false, Some, sym, ap, length, take}
 use Rattle.dn_ots.specs.Ots.{ots_candidate}
 use Rattle.dn_ots.proofs.KeyLemmas.{ots_candidate-ots_signature, length-ots_signature, take-ots_signature}
-use Rattle.dn_ots.proofs.keys.candidate.Goals as goal
+use Rattle.dn_ots.proofs.candidates.candidate.Goals as goal
 
 pub returns-then-not-has_form-clause-true_signature : goal.returns-then-not-has_form-clause-true_signature
 returns-then-not-has_form-clause-true_signature c = λ seed e.

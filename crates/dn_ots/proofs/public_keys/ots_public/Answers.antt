@@ -1,8 +1,8 @@
-use Rattle.std.proofs.Common.{◌≡◌, ◌∙◌, ℕ, arith}
+use Rattle.std.proofs.Common.{◌≡◌, ◌∙◌, arith}
 use Rattle.dn_ots.specs.Ots.{ots_public}
 use Rattle.dn_ots.proofs.ParameterLemmas.{limits}
-use Rattle.dn_ots.proofs.KeyLemmas.{opened, leaf_kept, went_on, tail_value, held_none, held_more, key_from_held}
-use Rattle.dn_ots.proofs.keys.ots_public.Goals as goal
+use Rattle.dn_ots.proofs.KeyLemmas.{opened, leaf_kept, went_on, held_none, held_more, key_from_held}
+use Rattle.dn_ots.proofs.public_keys.ots_public.Goals as goal
 
 pub overflow_cast-i : goal.overflow_cast-i
 overflow_cast-i c =
@@ -19,7 +19,7 @@ chains-preserved c =
     let head = opened id c.chains.block c.start_chain.new.block c.args.q c.chains.i c.start_chain.ensures.head c.chains.invariant.0 in
     let value = went_on id c.args.seed.now c.start_chain.new.block c.run.new.block c.args.q c.chains.i c.last_step.result _ head c.start_chain.ensures.value c.run.ensures.value c.last_step.ensures in (
       leaf_kept id c.run.new.block c.args.q c.chains.i c.told-id (c.run.ensures.head ∙ head),
-      held_more c.update.new.self _ _ _ c.chains.i (c.update.ensures _ c.chains.invariant.1) (tail_value c.run.new.block c.run.array_long ∙ value),
+      held_more c.take_value.new.hasher _ _ _ c.chains.i (c.take_value.ensures _ c.chains.invariant.1) value,
     )
 
 pub returns : goal.returns

@@ -2,7 +2,7 @@ use Rattle.std.proofs.Common.{◌∙◌, ap}
 use Rattle.sha2.specs.Sha256.{sha256}
 use Rattle.dn_ots.specs.Ots.{message_hash}
 use Rattle.dn_ots.proofs.KeyLemmas.{pieces}
-use Rattle.dn_ots.proofs.keys.message_hash.Goals as goal
+use Rattle.dn_ots.proofs.hashers.message_hash.Goals as goal
 
 pub returns : goal.returns
 unfolding message_hash

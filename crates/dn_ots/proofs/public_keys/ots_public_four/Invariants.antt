@@ -1,7 +1,7 @@
 use Rattle.std.proofs.Common.{◌+◌, []}
 use Rattle.std.specs.Prelude.{slice_index_or}
 use Rattle.dn_ots.proofs.KeyLemmas.{KeyLane}
-use Rattle.dn_ots.proofs.keys.ots_public_four.Given as goal
+use Rattle.dn_ots.proofs.public_keys.ots_public_four.Given as goal
 
 abbrev pub invariant-chains : goal.invariant-chains
 invariant-chains l = KeyLane l.id l.seed l.params.code l.q l.i (slice_index_or l.blocks 0 []) l.first

@@ -4,7 +4,7 @@ use Rattle.dn_ots.specs.Ots.{ots_signature, randomizer, joined}
 use Rattle.dn_ots.specs.Parameters.{chain_count}
 use Rattle.dn_ots.proofs.ParameterLemmas.{limits, chain_fields}
 use Rattle.dn_ots.proofs.KeyLemmas.{opened, leaf_kept, went_on, tail_value, digit_is, sign_none, sign_more, signed}
-use Rattle.dn_ots.proofs.keys.ots_sign.Goals as goal
+use Rattle.dn_ots.proofs.signatures.ots_sign.Goals as goal
 
 pub overflow_cast-i : goal.overflow_cast-i
 overflow_cast-i c =

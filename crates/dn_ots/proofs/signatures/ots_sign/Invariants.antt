@@ -2,7 +2,7 @@ use Rattle.std.proofs.Common.{◌≡◌, ◌++◌, take}
 use Rattle.std.specs.Int.{w32, to_be_bytes}
 use Rattle.dn_ots.specs.Chain.{leaf_head, chain_head, chain, chain_start}
 use Rattle.dn_ots.specs.Ots.{joined, digit, randomizer}
-use Rattle.dn_ots.proofs.keys.ots_sign.Given as goal
+use Rattle.dn_ots.proofs.signatures.ots_sign.Given as goal
 
 abbrev pub invariant-chains : goal.invariant-chains
 invariant-chains l = (take 20 l.block ≡ leaf_head l.id l.q)

@@ -1,10 +1,10 @@
-use Rattle.std.proofs.Common.{◌≡◌, ◌∙◌, ◌+◌, ◌*◌, ◌-◌, ◌<◌, ℕ, take, drop, ap, length, refl, arith}
+use Rattle.std.proofs.Common.{◌≡◌, ◌∙◌, ◌+◌, ◌*◌, ◌-◌, ◌<◌, ℕ, take, drop, ap, refl, arith}
 use Rattle.dn_ots.specs.Ots.{ots_candidate, randomizer_in, value_in}
 use Rattle.dn_ots.specs.Parameters.{chain_count}
 use Rattle.dn_ots.proofs.ParameterLemmas.{limits, chain_fields}
 use Rattle.dn_ots.proofs.DigitLemmas.{coef_small}
-use Rattle.dn_ots.proofs.KeyLemmas.{opened, leaf_kept, tail_value, digit_is, rest_of, held_none, held_more, key_from_held}
-use Rattle.dn_ots.proofs.keys.candidate_key.Goals as goal
+use Rattle.dn_ots.proofs.KeyLemmas.{opened, leaf_kept, digit_is, rest_of, held_none, held_more, key_from_held}
+use Rattle.dn_ots.proofs.candidates.candidate_key.Goals as goal
 
 pub overflow_cast-i : goal.overflow_cast-i
 overflow_cast-i c =
@@ -48,7 +48,7 @@ chains-preserved c =
     c.open_chain.ensures.value ∙ ap (λ (n : ℕ). take n (drop at c.args.sig.now)) long in
     let value = rest_of id c.open_chain.new.block c.run.new.block (value_in c.args.sig.now c.chains.i) c.args.q c.chains.i c.coef.result c.last_step.result _ _ head part c.run.ensures.value steps c.last_step.ensures in (
       leaf_kept id c.run.new.block c.args.q c.chains.i c.told-id (c.run.ensures.head ∙ head),
-      held_more c.update.new.self _ _ _ c.chains.i (c.update.ensures _ c.chains.invariant.1) (tail_value c.run.new.block c.run.array_long ∙ value),
+      held_more c.take_value.new.hasher _ _ _ c.chains.i (c.take_value.ensures _ c.chains.invariant.1) value,
     )
 
 pub returns : goal.returns

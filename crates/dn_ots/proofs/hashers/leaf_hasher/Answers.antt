@@ -1,6 +1,6 @@
-use Rattle.std.proofs.Common.{ℕ, List, [], ◌++◌, arith}
+use Rattle.std.proofs.Common.{[]}
 use Rattle.dn_ots.specs.Chain.{leaf_head}
-use Rattle.dn_ots.proofs.keys.leaf_hasher.Goals as goal
+use Rattle.dn_ots.proofs.hashers.leaf_hasher.Goals as goal
 
 pub returns : goal.returns
 unfolding leaf_head

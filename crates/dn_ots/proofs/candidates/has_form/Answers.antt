@@ -1,7 +1,7 @@
 use Rattle.std.proofs.Common.{◌≤◌, length, arith}
 use Rattle.std.proofs.lemmas.List.{length-take-le}
 use Rattle.dn_ots.proofs.ParameterLemmas.{limits}
-use Rattle.dn_ots.proofs.keys.has_form.Goals as goal
+use Rattle.dn_ots.proofs.candidates.has_form.Goals as goal
 
 pub slice_bounds-eq-end : goal.slice_bounds-eq-end
 slice_bounds-eq-end c =
