@@ -1,8 +1,8 @@
 -- The window of a script, event by event.
-use Rattle.std.proofs.Common.{zero, suc, ◌≡◌, ℕ, ◌+◌, ◌<◌, ◌≤◌, Bool, true, false, eqb, List, [], ◌∷◌, ◌++◌, map, length, get_or, set, drop, replicate, refl, sym, ap, ◌∙◌, ⊎_elim, arith, add-one, drop-cons, append_assoc, append-nil, length-set, subst}
+use Rattle.std.proofs.Common.{zero, suc, ◌≡◌, ℕ, ◌+◌, ◌<◌, Bool, true, false, eqb, List, [], ◌∷◌, ◌++◌, map, length, get_or, set, drop, replicate, refl, sym, ap, ◌∙◌, ⊎_elim, arith, add-one, drop-cons, append_assoc, append-nil, length-set, subst}
 use Rattle.std.specs.Prelude.{◌||◌, filter}
-use Rattle.std.specs.List.{All, list_any, filter_map, range_with_len}
-use Rattle.std.proofs.lemmas.Bool.{cond_both, cond-true, cond-false, cases_eq, eq-eqb, ne_eqb}
+use Rattle.std.specs.List.{filter_map}
+use Rattle.std.proofs.lemmas.Bool.{cond_both, cond-true, cases_eq, eq-eqb, ne_eqb}
 use Rattle.std.proofs.lemmas.List.{get_or-set_same, get_or-set_other, length-replicate, get_or-replicate}
 use Rattle.std.proofs.lemmas.List.Folds.{list_any-append}
 use Rattle.std.proofs.lemmas.List.FromFn.{fill_by_all, length-map-range_with_len, get_or-map-range_with_len}
@@ -16,7 +16,7 @@ use Rattle.dn_told.proofs.WindowLemmas.{included-append}
 use Rattle.dn_window.specs.Closing.{with_tick, with_close, tick_closes}
 use Rattle.dn_window.specs.Window.{WindowState, IsAfter, clients_of, opened}
 use Rattle.dn_script.specs.declared.line.PlainLine.{PlainLine}
-use Rattle.dn_cmd.specs.Window.{with_ticks, with_line, with_lines, answer_to, lines_text, end_text, is_included, IsAt, marked_by, ticks_text, close_text, closed_line}
+use Rattle.dn_cmd.specs.Window.{with_ticks, with_line, with_lines, answer_to, lines_text, is_included, IsAt, marked_by}
 
 -- ---- ticks
 

@@ -1,5 +1,5 @@
 -- One plain round: the pads of each pair, the ciphertexts of clients and servers, and the text that tells them.
-use Rattle.std.specs.Prelude.{◌≡◌, ℕ, ◌+◌, ◌*◌, ◌%◌, ◌==◌, Bool, List, ◌++◌, map, filter, codes}
+use Rattle.std.specs.Prelude.{ℕ, ◌+◌, ◌*◌, ◌%◌, ◌==◌, Bool, List, ◌++◌, map, filter, codes}
 use Rattle.std.specs.List.{flat_map}
 use Rattle.std.specs.Int.{w32, to_le_bytes}
 use Rattle.std.specs.Fmt.{decimal}
@@ -11,7 +11,8 @@ use Rattle.dn_script.specs.Spelling.{hex_of}
 pub use Rattle.dn_cmd.specs.Window.{counted}
 use Rattle.dn_cmd.specs.Window.{window_text}
 
--- word t of the seed of client i and server j: the dealer's keystream on stream 1, from word 8 * (i * servers + j) on
+-- word t of the seed of client i and server j: the dealer's keystream on stream 1, from word 8 * (i * servers + j)
+-- on
 abbrev pub seed_word : List ℕ → ℕ → ℕ → ℕ → ℕ → ℕ
 seed_word seed servers i j t = word_at 10 (key_of seed) 1 (8 * (i * servers + j) + t)
 
@@ -34,7 +35,8 @@ held p j = filter (λ i. i % p.servers == j) (counted p)
 -- server j's pads over the counted clients, and the ciphertexts that it holds
 abbrev pub server : Plain → ℕ → List Bool
 server p j =
-    xor_bits (sum_bits p.bits (map (λ i. pair_pad p i j) (counted p))) (sum_bits p.bits (map (cipher p) (held p j)))
+    xor_bits (sum_bits p.bits (map (λ i. pair_pad p i j) (counted p)))
+    (sum_bits p.bits (map (cipher p) (held p j)))
 
 -- the sum of the counted messages
 abbrev pub output : Plain → List Bool

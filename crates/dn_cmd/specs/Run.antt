@@ -1,7 +1,6 @@
 -- What `run` answers, and what it has read and written then.
 use Rattle.std.specs.Prelude.{◌≡◌, ℕ, ◌+◌, ◌<◌, ◌≤◌, List, length, Option, ◌⊎◌}
 use Rattle.std.specs.Io.KnownBytes.{Appends, Consumes, Keeps, IsAtEnd}
-use Rattle.dn_io.specs.declared.cause.Cause.{Cause}
 use Rattle.dn_io.specs.declared.status.Status.{Status}
 use Rattle.dn_io.specs.declared.status.Status.TheVariants as status
 use Rattle.dn_io.specs.Faults.{Rose}
@@ -49,7 +48,8 @@ abbrev pub Ends : Outside → Outside → Status → Type 0
 Ends before after status.Ok =
     (p : Plain) × CameScript before after p × Appends before.held after.held (plain_text p)
 Ends before after (status.BadLine number cause) =
-    Keeps before.held after.held × (text : List ℕ) × Came before after text × IsFirstBad (parts_of text) number cause
+    Keeps before.held after.held
+    × (text : List ℕ) × Came before after text × IsFirstBad (parts_of text) number cause
 Ends before after (status.TooLong limit) =
     Keeps before.held after.held × (limit ≡ script_limit)
     × (bytes : List ℕ) × (length bytes ≡ script_limit + 1) × Consumes before.left after.left bytes

@@ -62,7 +62,8 @@ closed_line events = closed_text (ticks_of events) (count_of events)
 -- what so many ticks write behind these events: where one of them closes the window, that is told
 abbrev pub ticks_text : ℕ → ℕ → List WindowEvent → List ℕ
 ticks_text expected count past =
-    if not (is_closed past) && is_closed (with_ticks expected count past) then closed_line (with_ticks expected count past) else []
+    let after = with_ticks expected count past in
+    if not (is_closed past) && is_closed after then closed_line after else []
 
 -- what a line `close` writes
 abbrev pub close_text : List WindowEvent → List ℕ
@@ -82,7 +83,8 @@ end_text past = if is_closed past then [] else closed_line (with_close past)
 -- what some lines and the last write behind these events
 abbrev pub lines_text : ℕ → List PlainLine → List WindowEvent → List ℕ
 lines_text expected [] past = end_text past
-lines_text expected (line ∷ lines) past = answer_to expected line past ++ lines_text expected lines (with_line expected line past)
+lines_text expected (line ∷ lines) past =
+    answer_to expected line past ++ lines_text expected lines (with_line expected line past)
 
 -- client i was told Included
 abbrev pub is_included : List WindowEvent → ℕ → Bool
@@ -95,9 +97,10 @@ window_text p = if has_window p.lines then lines_text p.clients p.lines [] else 
 -- the clients that count, in order: those told Included where the script has a window, else all
 abbrev pub counted : Plain → List ℕ
 counted p =
-    if has_window p.lines then filter (is_included (with_lines p.clients p.lines [])) (below p.clients) else below p.clients
+    if has_window p.lines then filter (is_included (with_lines p.clients p.lines [])) (below p.clients)
+    else below p.clients
 
--- A window over so many clients, and the marks of the clients that it told Included, stand as these events left them.
+-- a window over so many clients, and the marks of the clients that it told Included, stand as these events left them
 pub record IsAt (clients : ℕ) (window : WindowState) (marks : List Bool) (past : List WindowEvent) : Type 0 where
   pub after : IsAfter window past
   pub size : clients_of window ≡ clients

@@ -113,7 +113,8 @@ pub fn dissent<R: Threads + Wait + Sync, S: Source, K: Sink>(
 
     // With no fault of the outside `run` ends as its text asks, unless memory is refused.
     ensures complete { command_of (map string_bytes words.now) ≡ Some Command.Run
-        → (Rose (S.faults input.old) (S.faults input.new) → ⊥) → (Rose (K.faults output.old) (K.faults output.new) → ⊥)
+        → (Rose (S.faults input.old) (S.faults input.new) → ⊥)
+        → (Rose (K.faults output.old) (K.faults output.new) → ⊥)
         → IfSome (S.left input.old) (λ text. IsDue text result ⊎ (result ≡ Status.NoMemory)) }
 {
     let _ = rt;

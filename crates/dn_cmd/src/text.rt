@@ -48,7 +48,8 @@ fn push_clients(
 ) -> Result<(), NoMemory>
     requires counted { counted.now ≡ spec.counted script.now }
     requires ciphers { ciphers.now ≡ map (spec.cipher script.now) (spec.counted script.now) }
-    ensures { OnOk result (text.new.items ≡ text.old.items ++ spec.client_lines script.now (spec.counted script.now)) }
+    ensures { OnOk result (text.new.items
+        ≡ text.old.items ++ spec.client_lines script.now (spec.counted script.now)) }
 {
     for (place, client) in counted.iter().enumerate() {
         push_line(alloc, text, "c", *client, &ciphers[place])?;
@@ -64,7 +65,8 @@ fn push_servers(
     parts: &[Bits],
 ) -> Result<(), NoMemory>
     requires { parts.now ≡ map (spec.server script.now) (below script.now.servers) }
-    ensures { OnOk result (text.new.items ≡ text.old.items ++ spec.server_lines script.now (below script.now.servers)) }
+    ensures { OnOk result (text.new.items
+        ≡ text.old.items ++ spec.server_lines script.now (below script.now.servers)) }
 {
     for server in 0..script.servers() {
         push_line(alloc, text, "s", server, &parts[server as usize])?;

@@ -64,7 +64,8 @@ fn push_told(
 
 /// Appends the line of a window that is closed.
 fn push_closed(alloc: Global, text: &mut Vec<u8>, window: &Window) -> Result<(), NoMemory>
-    ensures { OnOk result (text.new.items ≡ text.old.items ++ spec.closed_text window.now.ticks window.now.count) }
+    ensures { OnOk result (text.new.items
+        ≡ text.old.items ++ spec.closed_text window.now.ticks window.now.count) }
 {
     let ticks = window.ticks();
     let count = window.count();
@@ -97,7 +98,8 @@ fn submit(
     ensures at { (n : ℕ) (past : List event.WindowEvent) → spec.IsAt n window.old marks.old past
         → spec.IsAt n window.new marks.new (past ++ event.Submit client.0 ∷ []) }
     ensures text { (past : List event.WindowEvent) → IsAfter window.old past
-        → OnOk result (text.new.items ≡ text.old.items ++ spec.told_line client.0 (event.told_after [] past client.0)) }
+        → OnOk result (text.new.items
+        ≡ text.old.items ++ spec.told_line client.0 (event.told_after [] past client.0)) }
 {
     let told = window.submit(client);
     mark(told, marks, client.0 as usize);
@@ -193,7 +195,8 @@ fn meet_all(
     text: &mut Vec<u8>,
 ) -> Result<Vec<bool>, NoMemory>
     requires { All (spec.IsWithin clients) lines.now }
-    ensures marks { IfOk result (λ v. v.items ≡ map (spec.is_included (spec.with_lines clients lines.now [])) (below clients)) }
+    ensures marks { IfOk result (λ v. v.items
+        ≡ map (spec.is_included (spec.with_lines clients lines.now [])) (below clients)) }
     ensures text { OnOk result (text.new.items ≡ text.old.items ++ spec.lines_text clients lines.now []) }
 {
     let mut window = Window::start(alloc, clients, clients)?;
@@ -219,7 +222,8 @@ fn all_below(alloc: Global, clients: u32) -> Result<Vec<u32>, NoMemory>
 /// The numbers of the marks that are set.
 fn all_marked(alloc: Global, clients: u32, marks: &[bool]) -> Result<Vec<u32>, NoMemory>
     requires { length marks.now ≡ clients }
-    ensures { IfOk result (λ v. (f : ℕ → Bool) → marks.now ≡ map f (below clients) → v.items ≡ filter f (below clients)) }
+    ensures { IfOk result (λ v. (f : ℕ → Bool) → marks.now ≡ map f (below clients)
+        → v.items ≡ filter f (below clients)) }
 {
     let mut marked = Vec::new(alloc);
     for client in 0..clients {

@@ -1,5 +1,5 @@
 -- What is spelled as a script is read as it.
-use Rattle.std.proofs.Common.{◌≡◌, ℕ, ◌+◌, ◌-◌, ◌^◌, ◌<◌, ◌≤◌, Bool, true, false, eqb, List, [], ◌∷◌, ◌++◌, map, length, Option, Some, None, Ok, Err, refl, sym, ap, ◌∙◌, arith, append_assoc, append-nil, length-append}
+use Rattle.std.proofs.Common.{◌≡◌, ℕ, ◌+◌, ◌-◌, ◌^◌, ◌<◌, ◌≤◌, Bool, true, false, eqb, List, [], ◌∷◌, ◌++◌, map, length, Some, None, Ok, Err, refl, sym, ap, ◌∙◌, arith, append_assoc, append-nil, length-append}
 use Rattle.std.specs.Prelude.{codes, not}
 use Rattle.std.specs.Result.{result_ok}
 use Rattle.std.specs.Option.{option_map_or}
@@ -19,14 +19,13 @@ use Rattle.hex.proofs.HexLemmas.{decode_of-ok, decode_of-encode_lower, decode_si
 use Rattle.dn_bits.specs.Bits.{first_bits, bytes_of}
 use Rattle.dn_bits.proofs.ByteLemmas.{bits_again, bytes_of-small}
 use Rattle.dn_io.specs.declared.cause.Cause.TheVariants.{Unbuilt}
-use Rattle.dn_wire.specs.declared.ids.ClientId.{ClientId}
 use Rattle.dn_script.specs.declared.line.PlainLine.{PlainLine}
 use Rattle.dn_script.specs.declared.line.PlainLine.TheVariants.{Say, Submit, Tick, Close}
 use Rattle.dn_script.specs.declared.reader.Reading.{Reading}
 use Rattle.dn_script.specs.declared.reader.Reading.TheVariants.{Empty, Open, Whole}
 use Rattle.dn_script.specs.Plain.{Plain}
 use Rattle.dn_script.specs.Fields.{cut, number_in, seed_of, bits_of, bytes_spelled, bits_spelled, ◌>>=◌}
-use Rattle.dn_script.specs.Reading.{after_word, plain_of, say_of, submit_of, tick_of, fields_of, line_of, says_again, next_line, line_read, read_parts, parts_of, read_script, line_limit}
+use Rattle.dn_script.specs.Reading.{after_word, plain_of, say_of, submit_of, tick_of, fields_of, line_of, says_again, next_line, read_parts, parts_of, read_script, line_limit}
 use Rattle.dn_script.specs.Spelling.{hex_of, spaced, plain_line, line_text, script_lines, script_text, Fits, Fresh, IsScript, Spells}
 use Rattle.dn_script.proofs.FieldLemmas.{IsFree, cut_of_parts, number_some, own}
 use Rattle.dn_script.proofs.ReadingLemmas.{read_more, line_within}

@@ -1,11 +1,10 @@
 -- Reading stops at the first bad line.
-use Rattle.std.proofs.Common.{zero, suc, ◌≡◌, ℕ, ◌+◌, ◌<◌, ◌≤◌, Bool, true, false, cond, eqb, List, [], ◌∷◌, ◌++◌, map, length, get_or, replicate, Option, Some, None, Result, Ok, Err, refl, sym, ap, ◌∙◌, subst, inl, inr, ⊎_elim, arith, append-nil, append_assoc}
+use Rattle.std.proofs.Common.{zero, suc, ◌≡◌, ℕ, ◌+◌, ◌<◌, ◌≤◌, Bool, true, false, cond, eqb, List, [], ◌∷◌, ◌++◌, length, get_or, replicate, Option, Some, None, Result, Ok, Err, refl, sym, ap, ◌∙◌, subst, inl, inr, ⊎_elim, arith, append-nil}
 use Rattle.std.specs.Prelude.{◌⊎◌, codes, nat_lt}
 use Rattle.std.specs.Option.{option_map_or}
 use Rattle.std.proofs.lemmas.Bool.{ltb-true, lt-ltb, ne_eqb, cond_both, cond-false}
 use Rattle.std.proofs.lemmas.Option.{none-some, same_Some}
 use Rattle.std.proofs.lemmas.List.Elements.{All-nil}
-use Rattle.hex.specs.Hex.{IsBytes}
 use Rattle.dn_io.specs.declared.cause.Cause.{Cause}
 use Rattle.dn_io.specs.declared.cause.Cause.TheVariants.{Unbuilt, Missing}
 use Rattle.dn_script.specs.declared.reader.Reading.{Reading}
@@ -13,7 +12,7 @@ use Rattle.dn_script.specs.declared.reader.Reading.TheVariants.{Empty, Open, Who
 use Rattle.dn_script.specs.Plain.{Plain}
 use Rattle.dn_script.specs.Fields.{◌>>=◌}
 use Rattle.dn_script.specs.Reading.{next_line, line_read, line_limit, read_parts, at_end, parts_of, read_script}
-use Rattle.dn_script.specs.Spelling.{script_lines, plain_line, line_text, Fits, IsScript}
+use Rattle.dn_script.specs.Spelling.{script_lines, Fits, IsScript}
 use Rattle.dn_script.specs.FirstBad.{Begins, LacksLine, HasBadLine, IsBadBehind, IsFirstBad}
 use Rattle.dn_script.proofs.ReadingLemmas.{line_was_read, some_parts, read_more}
 use Rattle.dn_script.proofs.SpellingLemmas.{bind_some, run_lines, stands, Stands}

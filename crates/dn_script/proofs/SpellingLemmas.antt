@@ -1,5 +1,5 @@
 -- What is read as a script is legal, and is spelled so.
-use Rattle.std.proofs.Common.{◌≡◌, ℕ, ◌+◌, ◌-◌, ◌<◌, ◌≤◌, Bool, true, false, cond, eqb, List, [], ◌∷◌, ◌++◌, map, length, Option, Some, None, Result, Ok, Err, refl, sym, ap, ◌∙◌, subst, ⊎_elim, inl, inr, arith, append_assoc, append-nil, length-append}
+use Rattle.std.proofs.Common.{◌≡◌, ℕ, ◌+◌, ◌-◌, ◌<◌, ◌≤◌, Bool, true, false, cond, eqb, List, [], ◌∷◌, ◌++◌, map, length, Option, Some, None, Result, Ok, Err, refl, sym, ap, ◌∙◌, subst, ⊎_elim, inl, inr, arith, append_assoc, append-nil}
 use Rattle.std.specs.Prelude.{nat_le, ◌&&◌, codes, ◌⊎◌}
 use Rattle.std.specs.Result.{result_ok}
 use Rattle.std.specs.Option.{option_map_or}
@@ -25,7 +25,7 @@ use Rattle.dn_script.specs.declared.reader.Reading.TheVariants.{Empty, Open, Who
 use Rattle.dn_script.specs.Plain.{Plain}
 use Rattle.dn_script.specs.Fields.{cut, number_in, seed_of, bits_of, bytes_spelled, bits_spelled, ◌>>=◌}
 use Rattle.dn_script.specs.Reading.{after_word, plain_of, say_of, submit_of, tick_of, fields_of, line_of, client_at, with_line, says_again, next_line, line_read, read_parts, parts_of, at_end, read_script, line_limit}
-use Rattle.dn_script.specs.Spelling.{hex_of, plain_line, line_text, script_lines, script_text, Fits, Fresh, IsScript, Spells}
+use Rattle.dn_script.specs.Spelling.{hex_of, plain_line, line_text, script_lines, Fits, Fresh, IsScript, Spells}
 use Rattle.dn_script.proofs.FieldLemmas.{cut_parts, ok_from}
 use Rattle.dn_script.proofs.ReadingLemmas.{line_was_read, some_parts}
 

@@ -10,8 +10,8 @@ use Rattle.dn_script.specs.Spelling.{script_lines, IsScript}
 abbrev pub Begins : List (List ℕ) → Type 0
 Begins lines = (p : Plain) × (rest : List (List ℕ)) × IsScript p × (script_lines p ≡ lines ++ rest)
 
--- The parts of a text between the ends of its lines end behind lines that begin a script and are none: the line that is
--- missing is the next one.
+-- The parts of a text between the ends of its lines end behind lines that begin a script and are none: the line
+-- that is missing is the next one.
 pub record LacksLine (parts : List (List ℕ)) (n : ℕ) : Type 0 where
   pub before : List (List ℕ)
   pub parts_are : parts ≡ before ++ [] ∷ []
@@ -20,11 +20,12 @@ pub record LacksLine (parts : List (List ℕ)) (n : ℕ) : Type 0 where
   pub begun : Begins before
   pub unended : (p : Plain) → IsScript p → script_lines p ≡ before → ⊥
 
--- why a line behind lines that begin a script is bad: it has an end, and no script begins with those lines and it, or it
--- is past the last line that a script may have; or it has no end, and isn't nothing
+-- why a line behind lines that begin a script is bad: it has an end, and no script begins with those lines and it, or
+-- it is past the last line that a script may have; or it has no end, and isn't nothing
 abbrev pub IsBadBehind : List (List ℕ) → List ℕ → List (List ℕ) → Type 0
 IsBadBehind before line after =
-    ((0 < length after) × ((Begins (before ++ line ∷ []) → ⊥) ⊎ (length before ≡ line_limit))) ⊎ ((after ≡ []) × (0 < length line))
+    ((0 < length after) × ((Begins (before ++ line ∷ []) → ⊥) ⊎ (length before ≡ line_limit)))
+    ⊎ ((after ≡ []) × (0 < length line))
 
 -- the lines before line n begin a script, and line n is bad behind them
 pub record HasBadLine (parts : List (List ℕ)) (n : ℕ) : Type 0 where

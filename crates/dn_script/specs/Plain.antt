@@ -1,12 +1,11 @@
 -- A plain script: what its first line says, and the lines behind it.
-use Rattle.std.specs.Prelude.{◌≡◌, ℕ, ◌==◌, Bool, false, List, [], ◌∷◌, Option, Some, None, unwrap_or, if◌then◌else◌}
-use Rattle.std.specs.List.{list_any}
+use Rattle.std.specs.Prelude.{ℕ, ◌==◌, Bool, List, [], ◌∷◌, Option, Some, None, unwrap_or, if◌then◌else◌}
 use Rattle.dn_bits.specs.Bits.{zeros}
-use Rattle.dn_wire.specs.declared.ids.ClientId.{ClientId}
 use Rattle.dn_script.specs.declared.line.PlainLine.{PlainLine}
 use Rattle.dn_script.specs.declared.line.PlainLine.TheVariants.{Say, Submit, Tick, Close}
 
--- the numbers of clients, servers and bits, the seed of the dealer, and the lines between the first and the last, in order
+-- the numbers of clients, servers and bits, the seed of the dealer, and the lines between the first and the last, in
+-- order
 pub record Plain : Type 0 where
   pub clients : ℕ
   pub servers : ℕ

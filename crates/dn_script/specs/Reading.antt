@@ -107,8 +107,8 @@ at_end Empty n = Err (n, Missing)
 at_end (Open p) n = Err (n, Missing)
 at_end (Whole p) n = Ok p
 
--- The script of the parts of a text that stand between the ends of its lines, the first of them line n: the last part
--- is what stands behind the last line's end. The fault is the first line that may not stand where it stands.
+-- The script of the parts of a text that stand between the ends of its lines, the first of them line n: the last
+-- part is what stands behind the last line's end. The fault is the first line that may not stand where it stands.
 abbrev pub read_parts : List (List ℕ) → Reading → ℕ → Result Plain (ℕ × Cause)
 read_parts [] r n = at_end r n
 read_parts (line ∷ []) r n = if length line == 0 then at_end r n else Err (n, Unbuilt)

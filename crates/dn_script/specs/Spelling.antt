@@ -1,5 +1,5 @@
 -- The legal plain scripts, and the one spelling of each in the strict form.
-use Rattle.std.specs.Prelude.{◌≡◌, ℕ, ◌+◌, ◌<◌, ◌≤◌, Bool, false, List, [], ◌∷◌, ◌++◌, map, length, codes}
+use Rattle.std.specs.Prelude.{◌≡◌, ℕ, ◌<◌, ◌≤◌, Bool, false, List, [], ◌∷◌, ◌++◌, map, length, codes}
 use Rattle.std.specs.List.{All, flat_map, join_with_byte}
 use Rattle.std.specs.Fmt.{decimal}
 use Rattle.hex.specs.Hex.{encode_lower, IsBytes}
@@ -19,7 +19,8 @@ spaced fields = join_with_byte 32 fields
 
 -- the first line
 abbrev pub plain_line : Plain → List ℕ
-plain_line p = spaced (codes "plain" ∷ decimal p.clients ∷ decimal p.servers ∷ decimal p.bits ∷ encode_lower p.seed ∷ [])
+plain_line p =
+    spaced (codes "plain" ∷ decimal p.clients ∷ decimal p.servers ∷ decimal p.bits ∷ encode_lower p.seed ∷ [])
 
 -- a line behind it
 abbrev pub line_text : PlainLine → List ℕ

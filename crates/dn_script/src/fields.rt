@@ -31,7 +31,8 @@ impl From<NoMemory> for LineFault {
 
 /// What stands before the first such byte, and what behind it.
 pub fn split(byte: u8, line: &[u8]) -> Option<(&[u8], &[u8])>
-    ensures { MatchOption result (cut byte line.now ≡ None) (λ x. cut byte line.now ≡ Some (x.0.now, x.1.now)) }
+    ensures { MatchOption result (cut byte line.now ≡ None)
+        (λ x. cut byte line.now ≡ Some (x.0.now, x.1.now)) }
 {
     for (i, b) in line.iter().enumerate() {
         if *b == byte {
@@ -124,7 +125,8 @@ pub fn seed(field: &[u8]) -> Result<[u8; 32], LineFault>
 
 /// Whether a field spells these bits.
 fn spells_bits(alloc: Global, bits: &Bits, field: &[u8]) -> Result<bool, LineFault>
-    ensures { MatchResult result (λ b. b ≡ bytes_eq field.now (encode_lower (bytes_of bits.now))) (λ e. e ≡ LineFault.NoMemory) }
+    ensures { MatchResult result (λ b. b ≡ bytes_eq field.now (encode_lower (bytes_of bits.now)))
+        (λ e. e ≡ LineFault.NoMemory) }
 {
     let mut bytes = Vec::new(alloc);
     bits.write_bytes(alloc, &mut bytes)?;

@@ -18,6 +18,8 @@ pub fn read_again()
 
 /// Where a text is no script, it has one first bad line with one cause, and those are told.
 pub fn first_bad()
-    ensures told { (text : List ℕ) (n : ℕ) (cause : Cause) → read_script text ≡ Err (n, cause) → IsFirstBad (parts_of text) n cause }
-    ensures only { (text : List ℕ) (n : ℕ) (cause : Cause) → IsFirstBad (parts_of text) n cause → read_script text ≡ Err (n, cause) }
+    ensures told { (text : List ℕ) (n : ℕ) (cause : Cause)
+        → read_script text ≡ Err (n, cause) → IsFirstBad (parts_of text) n cause }
+    ensures only { (text : List ℕ) (n : ℕ) (cause : Cause)
+        → IsFirstBad (parts_of text) n cause → read_script text ≡ Err (n, cause) }
 {}

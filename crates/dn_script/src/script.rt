@@ -119,7 +119,8 @@ impl PlainScript {
         bits: u32,
         seed: [u8; 32],
     ) -> PlainScript
-        ensures { result ≡ record { clients = clients; servers = servers; bits = bits; seed = seed; lines = [] } }
+        ensures { result
+            ≡ record { clients = clients; servers = servers; bits = bits; seed = seed; lines = [] } }
     {
         PlainScript {
             clients,

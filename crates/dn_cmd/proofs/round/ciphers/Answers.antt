@@ -1,4 +1,4 @@
-use Rattle.std.proofs.Common.{◌∙◌, ◌++◌, ◌∷◌, [], ap, sym, map, arith, take, get_or, refl}
+use Rattle.std.proofs.Common.{◌∙◌, ◌++◌, ◌∷◌, [], ap, sym, map, take, get_or, refl}
 use Rattle.dn_cmd.specs.Round.{cipher}
 use Rattle.dn_cmd.proofs.RoundLemmas.{map_more, counted_within}
 use Rattle.dn_cmd.proofs.round.ciphers.Goals as goal

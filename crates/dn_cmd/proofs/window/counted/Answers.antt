@@ -1,6 +1,5 @@
 use Rattle.std.proofs.Common.{◌∙◌, ap, length}
 use Rattle.std.proofs.lemmas.List.FromFn.{length-map-range_with_len}
-use Rattle.dn_cmd.specs.Window.{is_included, with_lines}
 use Rattle.dn_cmd.proofs.window.counted.Goals as goal
 
 pub all_marked-requires : goal.all_marked-requires

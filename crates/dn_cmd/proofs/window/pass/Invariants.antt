@@ -1,5 +1,3 @@
-use Rattle.std.proofs.Common.{◌≡◌, List}
-use Rattle.dn_window.specs.Window.{clients_of}
 use Rattle.dn_cmd.proofs.PassLemmas.{HasPassed}
 use Rattle.dn_cmd.proofs.window.pass.Given as goal
 

@@ -1,5 +1,4 @@
-use Rattle.std.proofs.Common.{sym, ◌∙◌, ap}
-use Rattle.dn_cmd.specs.Window.{marked_by}
+use Rattle.std.proofs.Common.{sym}
 use Rattle.dn_cmd.proofs.WindowLemmas.{at_submit}
 use Rattle.dn_cmd.proofs.window.submit.Goals as goal
 
