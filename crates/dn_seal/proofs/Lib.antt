@@ -1,0 +1,4 @@
+pub mod ListLemmas
+pub mod DrawLemmas
+pub mod EnvelopeLemmas
+pub mod ChallengeLemmas

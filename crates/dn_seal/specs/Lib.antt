@@ -1,0 +1,4 @@
+pub mod Dealt
+pub mod Signer
+pub mod Said
+pub mod Challenge
