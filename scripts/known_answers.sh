@@ -3,6 +3,7 @@
 # build or prove.
 #
 # usage: scripts/known_answers.sh [FOLDER]      by default ../shared/vectors/known beside the repository
+#        with BUILT=PROGRAM to take a program that is built
 #
 # To add a file: its name below, once crates/known_answers reads all its lines.
 set -euo pipefail
@@ -14,10 +15,13 @@ if [ ! -d "$folder" ]; then
     echo "known answers: skipped, no folder $folder"
     exit 0
 fi
-program=$top/crates/known_answers/out/known_answers
 log=$(mktemp)
 trap 'rm -f "$log"' EXIT
-(cd "$top/crates/known_answers" && rt run < stdin > "$log" 2>&1) || { cat "$log" >&2; exit 1; }
+program=${BUILT:-}
+if [ -z "$program" ]; then
+    program=$top/crates/known_answers/out/known_answers
+    (cd "$top/crates/known_answers" && rt run < stdin > "$log" 2>&1) || { cat "$log" >&2; exit 1; }
+fi
 
 failed=0
 for file in $files; do

@@ -4,11 +4,13 @@
 //! so that they can be compared with what another program prints.
 #![tactic(auto)]
 
+mod deal;
 mod lms;
 mod pads;
 mod records;
 
 use anyhow::{Context, Result, bail};
+use dn_roster::GroupSpec;
 use std::env;
 use std::str::FromStr;
 
@@ -21,6 +23,21 @@ where
     word.as_str()
         .parse::<T>()
         .context(format_args!("reading {word:?}"))
+}
+
+/// The group that the words tell: its numbers of clients and servers, its type codes, and the number that its seed ends
+/// with, in eight bytes with the high one first.
+fn group(words: &[String]) -> Result<GroupSpec> {
+    let mut seed = [0; 32];
+    seed[24..].copy_from_slice(&number::<u64>(words, 6)?.to_be_bytes());
+    Ok(GroupSpec {
+        clients: number(words, 1)?,
+        servers: number(words, 2)?,
+        ots: number(words, 3)?,
+        client_lms: number(words, 4)?,
+        server_lms: number(words, 5)?,
+        seed,
+    })
 }
 
 /// The lines of the measure that the words ask for.
@@ -47,6 +64,7 @@ fn measure(rt: &HostRuntime, words: &[String]) -> Result<String> {
             number(words, 2)?,
             number(words, 3)?,
         ),
+        "deal" => deal::line(alloc, group(words)?),
         name => bail!("no measure {name:?}"),
     }
 }
