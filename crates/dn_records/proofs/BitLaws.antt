@@ -1,16 +1,16 @@
 -- Bytes whose bits after the last are zeros are the bytes of their bits.
-use Rattle.std.proofs.Common.{◌≡◌, ℕ, zero, suc, ◌+◌, ◌-◌, ◌*◌, ◌/◌, ◌%◌, ◌^◌, ◌<◌, ◌≤◌, Bool, true, false, eqb, List, [], ◌∷◌, ◌++◌, length, get_or, map, refl, sym, ap, subst, ◌∙◌, arith, inl, inr, append_assoc, Ok, Err, cond}
+use Rattle.std.proofs.Common.{◌≡◌, ℕ, zero, suc, ◌+◌, ◌-◌, ◌*◌, ◌/◌, ◌%◌, ◌^◌, ◌<◌, ◌≤◌, Bool, true, false, eqb, List, ◌++◌, length, get_or, refl, sym, ap, subst, ◌∙◌, arith, inl, inr, append_assoc, Ok, Err, cond}
 use Rattle.std.specs.Int.{bit_at, w32}
 use Rattle.std.proofs.lemmas.Bool.{cases_lt, eqb-true, eq-eqb}
 use Rattle.std.proofs.lemmas.List.{get_or_past, get_or_append_left, length-append}
 use Rattle.std.proofs.lemmas.List.FromFn.{length-map-range_with_len, get_or-map-range_with_len, fill_by_all}
 use Rattle.dn_bits.specs.Bits.{bit, number_of, byte_of, bytes_of, bit_of_bytes, first_bits}
-use Rattle.dn_bits.proofs.ByteLemmas.{length-bytes_of, bits_again, small_byte}
+use Rattle.dn_bits.proofs.ByteLemmas.{length-bytes_of, bits_again}
 use Rattle.dn_wire.specs.Cursor.{Cursor}
 use Rattle.dn_records.specs.declared.fault.RecordFault.TheVariants.{Shape}
-use Rattle.dn_records.specs.Part.{◌>>=◌, Read}
+use Rattle.dn_records.specs.Part.{◌>>=◌}
 use Rattle.dn_records.specs.Fields.{spell_number, read_limited, read_bytes, read_bits, bits, ends_in_zeros}
-use Rattle.dn_records.proofs.Laws.{IsBytes, bind_ok, passed, ok_is, Took, Took-then, before, behind, IsExact}
+use Rattle.dn_records.proofs.Laws.{IsBytes, bind_ok, passed, Took, Took-then, IsExact}
 use Rattle.dn_records.proofs.FieldLaws.{up_to_exact, exactly_exact}
 
 -- what was taken from bytes is bytes

@@ -1,10 +1,10 @@
 -- A field's fault is the record's.
-use Rattle.std.proofs.Common.{◌≡◌, Result, Ok, Err, refl, subst, sym}
+use Rattle.std.proofs.Common.{◌≡◌, Result, Err, refl, subst, sym}
 use Rattle.dn_wire.specs.Cursor.{Cursor}
 use Rattle.dn_wire.specs.declared.reader.FieldFault.{FieldFault}
 use Rattle.dn_wire.specs.declared.reader.FieldFault.TheVariants as fields
 use Rattle.dn_records.specs.declared.fault.RecordFault.{RecordFault}
-use Rattle.dn_records.specs.Part.{Read, field, fault_of, Fails}
+use Rattle.dn_records.specs.Part.{field, fault_of, Fails}
 
 refuses : (A : Type 0) (f : FieldFault) → Fails {A = A × Cursor} (fault_of f) (Err (fault_of f))
 refuses A (fields.Cut at) = refl

@@ -1,5 +1,5 @@
 -- The law of each field.
-use Rattle.std.proofs.Common.{◌≡◌, ℕ, zero, suc, ◌+◌, ◌-◌, ◌*◌, ◌/◌, ◌%◌, ◌^◌, ◌<◌, ◌≤◌, Bool, true, false, cond, eqb, ltb, List, [], ◌∷◌, ◌++◌, length, get_or, take, drop, Result, Ok, Err, refl, sym, ap, subst, ◌∙◌, append_assoc, arith}
+use Rattle.std.proofs.Common.{◌≡◌, ℕ, zero, suc, ◌+◌, ◌^◌, ◌<◌, ◌≤◌, Bool, true, false, cond, eqb, ltb, List, [], ◌∷◌, ◌++◌, length, get_or, take, Result, Ok, Err, refl, sym, ap, subst, append_assoc, arith}
 use Rattle.std.specs.Prelude.{◌||◌}
 use Rattle.std.specs.Int.{Width, w16, w32, w64, byte_len, from_be_bytes, to_be_bytes}
 use Rattle.std.proofs.lemmas.Bool.{ltb-false, le-ltb}
@@ -7,14 +7,12 @@ use Rattle.std.proofs.lemmas.Bool.Decides.{nat_tests}
 use Rattle.std.proofs.lemmas.List.{take_at, drop_at, take-append-drop, length-append, length-take}
 use Rattle.std.proofs.lemmas.Nat.{be_bytes_2, be_bytes_4, be_bytes_8, from_be_bytes-to_be_bytes_2, from_be_bytes-to_be_bytes_4, from_be_bytes-to_be_bytes_8}
 use Rattle.dn_wire.specs.Cursor.{Cursor, past}
-use Rattle.dn_wire.specs.Fields.{byte_at, number_at, bytes_at, inner_at, limited_at}
-use Rattle.dn_wire.specs.declared.reader.FieldFault.{FieldFault}
+use Rattle.dn_wire.specs.Fields.{byte_at, number_at, bytes_at, limited_at}
 use Rattle.dn_wire.specs.declared.reader.FieldFault.TheVariants as fields
-use Rattle.dn_records.specs.declared.fault.RecordFault.{RecordFault}
 use Rattle.dn_records.specs.declared.fault.RecordFault.TheVariants.{Shape}
-use Rattle.dn_records.specs.Part.{◌>>=◌, Read, Part, field}
+use Rattle.dn_records.specs.Part.{Read, Part, field}
 use Rattle.dn_records.specs.Fields.{spell_number, read_byte, read_number, read_limited, read_bytes, read_few, byte, short, word, long, up_to, few, exactly, sized}
-use Rattle.dn_records.proofs.Laws.{IsBytes, IsBytes-drop, IsBytes-take, bind_ok, not_refused, field_ok, Took, Took-then, before, behind, Finds, Knows, IsExact}
+use Rattle.dn_records.proofs.Laws.{IsBytes, IsBytes-drop, IsBytes-take, bind_ok, not_refused, field_ok, Took, Took-then, Finds, Knows, IsExact}
 
 -- a test that did not fail, and what went on
 refused : {A E : Type 0} (b : Bool) (d : E) (r : Result A E) (y : A) → cond b (Err d) r ≡ Ok y → (b ≡ false) × (r ≡ Ok y)

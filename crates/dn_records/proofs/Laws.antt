@@ -1,13 +1,13 @@
 -- What is read is spelled so, and what is spelled so is read: the law of a part, and how it goes
 -- from the parts to what is put together of them.
-use Rattle.std.proofs.Common.{◌≡◌, ℕ, zero, suc, ◌+◌, ◌-◌, ◌^◌, ◌<◌, ◌≤◌, Bool, true, false, cond, List, [], ◌∷◌, ◌++◌, length, get_or, take, drop, map, Result, Ok, Err, refl, sym, ap, subst, ◌∙◌, append_assoc, arith, inl, inr}
+use Rattle.std.proofs.Common.{◌≡◌, ℕ, ◌+◌, Bool, true, false, cond, List, [], ◌++◌, length, take, drop, Result, Ok, Err, refl, sym, ap, subst, ◌∙◌, append_assoc, arith, inl, inr}
 use Rattle.std.proofs.lemmas.Bool.{cases_lt}
 use Rattle.std.proofs.lemmas.List.{length-append, get_or-drop, get_or-take, get_or_past, length-take}
 use Rattle.dn_wire.specs.Cursor.{Cursor}
 use Rattle.dn_wire.specs.declared.reader.FieldFault.{FieldFault}
 use Rattle.dn_records.specs.declared.fault.RecordFault.{RecordFault}
 pub use Rattle.dn_records.specs.Exact.{IsBytes, Took, before, behind, Finds, Knows, IsExact}
-use Rattle.dn_records.specs.Part.{◌>>=◌, Read, Part, field, made, ◌⋈◌, seen}
+use Rattle.dn_records.specs.Part.{◌>>=◌, Part, field, ◌⋈◌, seen}
 
 pub IsBytes-drop : (n : ℕ) (bytes : List ℕ) → IsBytes bytes → IsBytes (drop n bytes)
 IsBytes-drop n bytes h i = rw get_or-drop (h (n + i))

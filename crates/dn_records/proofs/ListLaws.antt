@@ -1,21 +1,19 @@
 -- The law of a list, of rows and of a part inside a number of bytes.
-use Rattle.std.proofs.Common.{◌≡◌, ℕ, zero, suc, ◌+◌, ◌-◌, ◌^◌, ◌<◌, ◌≤◌, Bool, true, false, cond, eqb, ltb, List, [], ◌∷◌, ◌++◌, length, get_or, take, drop, map, Result, Ok, Err, refl, sym, ap, subst, ◌∙◌, append_assoc, arith}
+use Rattle.std.proofs.Common.{◌≡◌, ℕ, zero, suc, ◌+◌, ◌≤◌, false, cond, eqb, ltb, List, [], ◌∷◌, ◌++◌, length, take, map, Ok, Err, refl, sym, ap, subst, ◌∙◌, append_assoc, arith}
 use Rattle.std.specs.Int.{w32}
 use Rattle.std.specs.List.{flat_map, AllByRecursion}
 use Rattle.std.proofs.lemmas.Bool.{ltb-false, le-ltb, eqb-true}
-use Rattle.std.proofs.lemmas.List.{length-append, length-take, append-nil, take_at, drop_at, nil_from_length, take-append-drop}
+use Rattle.std.proofs.lemmas.List.{length-append, length-take, append-nil, take_at, drop_at, nil_from_length}
 use Rattle.std.proofs.lemmas.List.Concat.{flat_map-cons}
 use Rattle.dn_wire.specs.Cursor.{Cursor, past}
 use Rattle.dn_wire.specs.Fields.{inner_at}
-use Rattle.dn_wire.specs.declared.reader.FieldFault.{FieldFault}
 use Rattle.dn_wire.specs.declared.reader.FieldFault.TheVariants as fields
 use Rattle.dn_wire.specs.declared.ids.ClientId.{ClientId}
-use Rattle.dn_records.specs.declared.fault.RecordFault.{RecordFault}
 use Rattle.dn_records.specs.declared.fault.RecordFault.TheVariants.{Shape, Trailing}
-use Rattle.dn_records.specs.Part.{◌>>=◌, Read, Part, field}
-use Rattle.dn_records.specs.Fields.{read_inner, read_limited, spell_number, client, up_to}
+use Rattle.dn_records.specs.Part.{◌>>=◌, Read, Part}
+use Rattle.dn_records.specs.Fields.{read_inner, read_limited, spell_number, client}
 use Rattle.dn_records.specs.Lists.{read_list, read_items, several, AscendFrom, Ascend, read_client, Row, read_row, read_rows, rows, spell_row, FitsRow, read_inside, inside}
-use Rattle.dn_records.proofs.Laws.{IsBytes, IsBytes-drop, IsBytes-take, bind_ok, not_refused, passed, ok_is, field_ok, Took, Took-then, Took-nothing, before, behind, Finds, Knows, IsExact}
+use Rattle.dn_records.proofs.Laws.{IsBytes, IsBytes-take, bind_ok, not_refused, passed, ok_is, field_ok, Took, Took-then, Took-nothing, before, behind, Finds, Knows, IsExact}
 use Rattle.dn_records.proofs.FieldLaws.{up_to_exact, took_front}
 
 -- ---- lists whose items may set the floor of the next

@@ -1,18 +1,12 @@
 -- The law of each record.
-use Rattle.std.proofs.Common.{◌≡◌, ℕ, zero, suc, ◌+◌, ◌<◌, ◌≤◌, Bool, true, false, cond, eqb, List, [], ◌∷◌, ◌++◌, length, get_or, Result, Ok, Err, refl, sym, ap, subst, ◌∙◌, append_assoc, arith, ◌⊎◌, inl, inr}
+use Rattle.std.proofs.Common.{◌≡◌, ℕ, zero, suc, ◌+◌, ◌<◌, ◌≤◌, Bool, true, false, cond, eqb, List, [], ◌∷◌, ◌++◌, length, Result, Ok, Err, refl, sym, ap, subst, ◌∙◌, arith, ◌⊎◌, inl, inr}
 use Rattle.std.specs.Prelude.{IfOk}
 use Rattle.std.proofs.lemmas.Bool.{eqb-true}
 use Rattle.std.proofs.lemmas.List.{append-nil, nil_from_length}
 use Rattle.dn_wire.specs.Cursor.{Cursor, start}
-use Rattle.dn_wire.specs.declared.ids.ClientId.{ClientId}
-use Rattle.dn_wire.specs.declared.ids.ServerId.{ServerId}
-use Rattle.dn_wire.specs.declared.ids.SlotId.{SlotId}
-use Rattle.dn_wire.specs.declared.ids.Round.{Round}
 use Rattle.dn_wire.specs.declared.ids.SignerId.{SignerId}
 use Rattle.dn_wire.specs.declared.ids.SignerId.TheVariants as signers
-use Rattle.dn_records.specs.declared.inventory.Inventory.{Inventory}
 use Rattle.dn_records.specs.declared.body.Body.{Body}
-use Rattle.dn_records.specs.declared.shown.ShownCipher.{ShownCipher}
 use Rattle.dn_records.specs.declared.statement.Statement.{Statement}
 use Rattle.dn_records.specs.declared.statement.Statement.TheVariants as kinds
 use Rattle.dn_records.specs.declared.statement.WordTold.{WordTold}
@@ -22,9 +16,9 @@ use Rattle.dn_records.specs.declared.payload.Payload.{Payload}
 use Rattle.dn_records.specs.declared.payload.Payload.TheVariants as payloads
 use Rattle.dn_records.specs.declared.fault.RecordFault.{RecordFault}
 use Rattle.dn_records.specs.declared.fault.RecordFault.TheVariants as faults
-use Rattle.dn_records.specs.Part.{◌>>=◌, Read, Part, made, ◌⋈◌, seen, whole, Fails, Gives}
-use Rattle.dn_records.specs.Fields.{read_byte, byte, short, word, long, up_to, few, exactly, sized, bits, round, client, server, slot, digest}
-use Rattle.dn_records.specs.Lists.{Row, rows, several, inside}
+use Rattle.dn_records.specs.Part.{Read, Part, made, ◌⋈◌, whole, Gives}
+use Rattle.dn_records.specs.Fields.{read_byte, short, word, long, up_to, few, exactly, sized, bits, round, client, server, slot, digest}
+use Rattle.dn_records.specs.Lists.{rows, several, inside}
 use Rattle.dn_records.specs.Records.{entry, inventory, listed, shown_cipher, body, word_told, told_byte, told, submission, receipt, commit, reveal, pad_bits, shown, accusation, rebuttal, concede, read_submission, read_receipt, read_inventory, read_commit, read_reveal, read_sign, read_pad_bits, read_shown, read_accusation, read_rebuttal, read_concede, read_kind, statement_bytes, IsStatement, read_statement, statement, statement_of, body_bytes, IsBody, body_of, signer_of, signer_numbers, signer, signed, envelope_bytes, IsEnvelope, envelope_of, certificate, challenge, payload_bytes, IsPayload, read_tag, read_cipher, read_certificate, read_challenge, payload_of}
 use Rattle.dn_records.proofs.Laws.{IsBytes, bind_ok, passed, ok_is, Took, Took-then, before, behind, IsExact, both, like}
 use Rattle.dn_records.proofs.FieldLaws.{byte_exact, short_exact, word_exact, long_exact, up_to_exact, few_exact, exactly_exact, sized_exact}

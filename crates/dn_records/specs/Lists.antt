@@ -1,10 +1,10 @@
 -- Lists of parts, and parts inside a number of bytes.
-use Rattle.std.specs.Prelude.{◌≡◌, ℕ, zero, suc, ◌+◌, ◌≤◌, nat_lt, ◌==◌, List, [], ◌∷◌, ◌++◌, length, map, take, Result, Ok, Err, if◌then◌else◌}
+use Rattle.std.specs.Prelude.{ℕ, zero, suc, ◌+◌, ◌≤◌, nat_lt, ◌==◌, List, [], ◌∷◌, ◌++◌, length, map, Ok, Err, if◌then◌else◌}
 use Rattle.std.specs.Int.{w32}
 use Rattle.std.specs.List.{flat_map, AllByRecursion}
-use Rattle.dn_wire.specs.Cursor.{Cursor, past}
+use Rattle.dn_wire.specs.Cursor.{Cursor}
 use Rattle.dn_wire.specs.declared.ids.ClientId.{ClientId}
-use Rattle.dn_records.specs.declared.fault.RecordFault.TheVariants.{Cut, Shape, Trailing}
+use Rattle.dn_records.specs.declared.fault.RecordFault.TheVariants.{Shape, Trailing}
 use Rattle.dn_records.specs.Part.{Part, Read, ◌>>=◌}
 use Rattle.dn_records.specs.Fields.{client, read_limited, read_inner, spell_number}
 

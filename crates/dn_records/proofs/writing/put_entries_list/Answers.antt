@@ -1,6 +1,4 @@
-use Rattle.std.proofs.Common.{◌≡◌, ◌<◌}
 use Rattle.std.proofs.lemmas.List.Elements.{All-from_recursion}
-use Rattle.dn_records.specs.Fields.{sized, short, word}
 use Rattle.dn_records.specs.Lists.{FitsRow}
 use Rattle.dn_records.specs.Records.{entry}
 use Rattle.dn_records.proofs.writing.put_entries_list.Goals as goal

@@ -1,8 +1,5 @@
-use Rattle.std.proofs.Common.{◌≡◌, ◌<◌}
 use Rattle.std.proofs.lemmas.List.Elements.{All-from_recursion}
-use Rattle.dn_records.specs.Fields.{sized, short, word}
-use Rattle.dn_records.specs.Lists.{FitsRow}
-use Rattle.dn_records.specs.Records.{entry}
+use Rattle.dn_records.specs.Fields.{sized, short}
 use Rattle.dn_records.proofs.writing.put_signatures_list.Goals as goal
 
 pub put_sized_short-requires : goal.put_sized_short-requires

@@ -1,5 +1,5 @@
 -- Two lists of members are one where they are as long and each pair is one member.
-use Rattle.std.proofs.Common.{◌≡◌, ℕ, Bool, true, false, eqb, List, refl, sym, ap, ◌∙◌}
+use Rattle.std.proofs.Common.{◌≡◌, ℕ, true, sym, ap, ◌∙◌}
 use Rattle.std.proofs.lemmas.Bool.{eqb-true, eq-eqb}
 use lib.Pointwise.{pointwise, pointwise_decides}
 use Rattle.dn_wire.specs.declared.ids.Member.{Member}
