@@ -1,5 +1,5 @@
 -- The values that `collect` takes.
-use Rattle.std.proofs.Common.{◌≡◌, ◌≢◌, ◌⊎◌, ℕ, suc, ◌+◌, ◌<◌, ◌≤◌, List, [], ◌∷◌, ◌++◌, length, get_or, map, refl, sym, ap, subst, ◌∙◌, arith, append_assoc, append-nil, Bool, cond, eq-eqb, ne_eqb, inl, inr, ⊎_elim, length-append, ◌-◌, Option, Some, None}
+use Rattle.std.proofs.Common.{◌≡◌, ◌≢◌, ◌⊎◌, ℕ, suc, ◌+◌, ◌<◌, ◌≤◌, List, [], ◌∷◌, ◌++◌, length, get_or, map, refl, sym, ap, subst, ◌∙◌, arith, append_assoc, append-nil, Bool, cond, nat_lt, eq-eqb, ne_eqb, inl, inr, ⊎_elim, length-append, ◌-◌, Option, Some, None}
 use Rattle.std.specs.List.Sorted.{IsStrictlyIncreasing}
 use Rattle.std.proofs.lemmas.List.{map-append, get_or_append_left}
 use Rattle.std.proofs.Math.Seq.{get_or-append_seam}
@@ -8,12 +8,13 @@ use mathlib.Core.Option.{some, none}
 use native.Mathlib.Decide.{ℕ_discrete, dec_le}
 use lib.ListN.{get_elem?}
 use Rattle.atomic_table.specs.Table.{step, rest}
-use Rattle.dn_gate.specs.Rule.{At, view, total, equal, times, puts, took, IsOnly, Takes}
+use Rattle.dn_gate.specs.Rule.{At, view, total, many, equal, times, is_mark, puts, took, IsOnly, Takes}
 use Rattle.dn_gate.specs.Order.{with_number, in_order}
 use Rattle.dn_gate.specs.Collected.{named, clients_of, took_all, KnowsPuts, IsLeftOrTaken}
 use Rattle.dn_gate.specs.declared.view.View.{View}
 use Rattle.dn_wire.specs.declared.ids.ClientId.{ClientId}
 use Rattle.dn_gate.proofs.Sums.{hit, miss, times-append}
+use Rattle.dn_gate.proofs.Marks.{once_most, once_yes, once_no, many_le, many_more}
 
 module _ {T : Type 0} where
   with_number-hit : (i c : ℕ) (z : T) (xs : List (ℕ × T)) → c ≡ i → with_number i ((c, z) ∷ xs) ≡ (c, z) ∷ with_number i xs
@@ -49,20 +50,25 @@ module _ {T : Type 0} where
 
   -- the clients so far
   pub took_none : (m : At T) (xs : List (ClientId × T)) → xs ≡ [] → m.1 ≡ [] → m ≡ (took_all m.0 (clients_of xs), [])
-  took_none m xs empty e = λ j. (view m.0.passes m.0.clients m.0.before m.0.numbers m.0.claim m.0.unmarked m.0.draws m.0.values m.0.repeats m.0.closing m.0.looked ((sym (append-nil m.0.taken) ∙ ap (λ l. m.0.taken ++ clients_of l) (sym empty)) j), e j)
+  took_none m xs empty e = λ j. (view m.0.passes m.0.clients m.0.before m.0.numbers m.0.claim m.0.unmarked m.0.draws m.0.values m.0.repeats m.0.closing m.0.looked ((sym (append-nil m.0.taken) ∙ ap (λ l. m.0.taken ++ clients_of l) (sym empty)) j) m.0.right, e j)
 
   pub took_more : (v u : View T) (i : ℕ) (m : At T) (xs ys : List (ClientId × T)) → u ≡ took_all v (clients_of xs) → IsLeftOrTaken u i m xs ys → m ≡ (took_all v (clients_of ys), [])
   took_more v u i m xs ys is t = ⊎_elim
       (λ l. l.0 ∙ ap (λ w. (w, [])) is ∙ ap (λ c. (took_all v (clients_of c), [])) (sym l.1))
       (λ r. r.1 ∙ ap (λ w. (took w i, [])) is
-      ∙ (λ j. (view v.passes v.clients v.before v.numbers v.claim v.unmarked v.draws v.values v.repeats v.closing v.looked ((append_assoc v.taken (clients_of xs) (i ∷ []) ∙ ap (λ l. v.taken ++ l) (sym (map-append (λ p. p.0.0) xs (named (i, r.0) ∷ []))) ∙ ap (λ c. v.taken ++ clients_of c) (sym r.2)) j), [])))
+      ∙ (λ j. (view v.passes v.clients v.before v.numbers v.claim v.unmarked v.draws v.values v.repeats v.closing v.looked ((append_assoc v.taken (clients_of xs) (i ∷ []) ∙ ap (λ l. v.taken ++ l) (sym (map-append (λ p. p.0.0) xs (named (i, r.0) ∷ []))) ∙ ap (λ c. v.taken ++ clients_of c) (sym r.2)) j) v.right, [])))
       t
 
   -- where the word wasn't marked, and where it was
-  pub left_out : (slots i found : ℕ) (m n : At T) → Takes (step slots (i + 1) 0 0 none) m found n → found ≢ 3 → (n ≡ m) × KnowsPuts m.0 i 0
+  pub left_out : (slots i found : ℕ) (m n : At T) → Takes (step slots (i + 1) 0 0 none) m found n → found ≢ 3 → (n ≡ m) × KnowsPuts m.0 i 0 × (total (is_mark i) m.0.looked ≡ 0)
   left_out slots i found m n told ne =
-      let back : i + 1 - 1 ≡ i = omega arith in
-      (told.0 ne, λ all. ap (λ (c : ℕ). puts c m.0) (sym back) ∙ sym (told.2 all) ∙ ap (λ b. cond {A = ℕ} b 1 0) (ne_eqb found 3 ne))
+      let back : i + 1 - 1 ≡ i = omega arith in (
+        told.0 ne,
+        (λ all. ap (λ (c : ℕ). puts c m.0) (sym back) ∙ sym (told.2 all) ∙ ap (λ b. cond {A = ℕ} b 1 0) (ne_eqb found 3 ne)),
+        dite (dec_le (total (is_mark i) m.0.looked) 0)
+            (λ z. omega arith)
+            (λ p. absurd (ne (told.3 (omega (arith, p, ap (λ (c : ℕ). total (is_mark c) m.0.looked) back))))),
+      )
 
   pub taken_out : (slots i found : ℕ) (m n : At T) → Takes (step slots (i + 1) 0 0 none) m found n → found ≡ 3 → (x : T) × (n ≡ (took m.0 i, (i, Some x) ∷ m.1)) × IsOnly m.0 i x × KnowsPuts m.0 i 1
   taken_out slots i found m n told three =
@@ -128,3 +134,23 @@ module _ {T : Type 0} where
 
   pub whole_more : (v u : View T) (i : ℕ) (cs : List ℕ) (m : At T) (xs ys : List (ClientId × T)) → u ≡ took_all v cs → IsLeftOrTaken u i m xs ys → length v.numbers ≡ v.passes → xs ≡ map named (in_order i v.values) → ys ≡ map named (in_order (i + 1) v.values)
   whole_more v u i cs m xs ys is t all e = values_more (took_all v cs) i m xs ys (subst (λ w. IsLeftOrTaken w i m xs ys) is t) all e
+
+  -- each client whose word was found marked before is among those so far
+  pub full_more : (v u : View T) (i : ℕ) (cs : List ℕ) (m : At T) (xs ys : List (ClientId × T)) → u ≡ took_all v cs → IsLeftOrTaken u i m xs ys → many (λ j. total (is_mark j) v.looked) i ≤ length xs → many (λ j. total (is_mark j) v.looked) (i + 1) ≤ length ys
+  full_more v u i cs m xs ys is t h =
+      let f : ℕ → ℕ = λ j. total (is_mark j) v.looked in ⊎_elim
+      (λ l. omega (arith, h, ap length l.1, many_more f i, once_no (f i) (ap (λ (w : View T). total (is_mark i) w.looked) (sym is) ∙ l.3)))
+      (λ r. omega (arith, h, ap length r.2, length-append xs (named (i, r.0) ∷ []), many_more f i, once_most (nat_lt 0 (f i))))
+      t
+
+  -- the values so far are of so many clients
+  pub counted_more : (u : View T) (i : ℕ) (m : At T) (xs ys : List (ClientId × T)) → IsLeftOrTaken u i m xs ys → length xs ≤ many (λ j. times j (clients_of xs)) i → length ys ≤ many (λ j. times j (clients_of ys)) (i + 1)
+  counted_more u i m xs ys t h = ⊎_elim
+      (λ l. subst (λ (zs : List (ClientId × T)). length zs ≤ many (λ j. times j (clients_of zs)) (i + 1)) (sym l.1) (omega (arith, h, many_more (λ j. times j (clients_of xs)) i)))
+      (λ r.
+      let g : ℕ → ℕ = λ j. times j (clients_of ys) in
+      let e : clients_of ys ≡ clients_of xs ++ i ∷ [] = ap clients_of r.2 ∙ map-append (λ p. p.0.0) xs (named (i, r.0) ∷ []) in
+      let more : (j : ℕ) → times j (clients_of ys) ≡ times j (clients_of xs) + times j (i ∷ []) = λ j. ap (times j) e ∙ times-append j (clients_of xs) (i ∷ []) in
+      let fewer = many_le (λ j. times j (clients_of xs)) g (λ j. omega (arith, more j)) i in
+      omega (arith, h, fewer, ap length r.2, length-append xs (named (i, r.0) ∷ []), many_more g i, once_yes (g i) (omega (arith, more i, hit i i refl))))
+      t

@@ -7,13 +7,13 @@ use lib.ListN.{get_elem?}
 use Rattle.atomic_table.specs.Table.{Step}
 use Rattle.atomic_table.specs.Seated.{TableId}
 use Rattle.dn_gate.specs.Draws.{Draw}
-use Rattle.dn_gate.specs.Rule.{At, closed, total, equal, once_below, included_of, IsBefore, IsTold, includes, puts, marks_upto, IsSettled, Settles}
+use Rattle.dn_gate.specs.Rule.{At, closed, total, equal, once_below, included_of, IsBefore, IsTold, includes, puts, marks_upto, without_right, IsSettled, Settles}
 use Rattle.dn_gate.specs.Pass.{GateId, PassView, pass_view, as_view, IsReady}
 use Rattle.dn_gate.specs.declared.view.View.{View}
 use Rattle.dn_gate.proofs.Sums.{hit, miss, below_more, below_yes, below_no}
 
 module _ {A : Type 0} where
-  total_both : (f g h : A → ℕ) → ((x : A) → f x + g x ≡ h x) → (l : List A) → total f l + total g l ≡ total h l
+  pub total_both : (f g h : A → ℕ) → ((x : A) → f x + g x ≡ h x) → (l : List A) → total f l + total g l ≡ total h l
   total_both f g h e [] = refl
   total_both f g h e (x ∷ xs) = omega (arith, e x, total_both f g h e xs)
 
@@ -21,20 +21,19 @@ module _ {A : Type 0} where
   total_same f g [] h = refl
   total_same f g (x ∷ xs) h = omega (arith, h 0 x refl, total_same f g xs (λ j. h (suc j)))
 
-equal_sym : (x y : ℕ) → equal x y ≡ equal y x
+pub equal_sym : (x y : ℕ) → equal x y ≡ equal y x
 equal_sym x y = dite (ℕ_discrete x y)
     (λ e. hit x y e ∙ sym (hit y x (sym e)))
     (λ ne. miss x y ne ∙ sym (miss y x (λ e. ne (sym e))))
 
 -- 1 where the draw is included and its client is below n; where it is included
-inside_of : ℕ → Draw → ℕ
+abbrev pub inside_of : ℕ → Draw → ℕ
 inside_of n d = cond (is_none d.late) (once_below d.client n) 0
 
 is_in : Draw → ℕ
 is_in d = cond (is_none d.late) 1 0
 
-inside_more : (n : ℕ) (d : Draw) → inside_of n d + included_of n d ≡ inside_of (n + 1) d
-unfolding inside_of
+pub inside_more : (n : ℕ) (d : Draw) → inside_of n d + included_of n d ≡ inside_of (n + 1) d
 inside_more n d = by (is_none d.late)
   where
     by : (b : Bool) → cond b (once_below d.client n) 0 + cond b (equal d.client n) 0 ≡ cond b (once_below d.client (n + 1)) 0
@@ -42,7 +41,6 @@ inside_more n d = by (is_none d.late)
     by false = refl
 
 inside_none : (d : Draw) → inside_of 0 d ≡ 0
-unfolding inside_of
 inside_none d = by (is_none d.late)
   where
     by : (b : Bool) → cond b (once_below d.client 0) 0 ≡ 0
@@ -50,7 +48,7 @@ inside_none d = by (is_none d.late)
     by false = refl
 
 inside_all : (n : ℕ) (d : Draw) → d.client < n → inside_of n d ≡ is_in d
-unfolding inside_of is_in
+unfolding is_in
 inside_all n d lt = by (is_none d.late)
   where
     by : (b : Bool) → cond b (once_below d.client n) 0 ≡ cond {A = ℕ} b 1 0
@@ -100,8 +98,12 @@ module _ {T : Type 0} where
       told.2 (ap (λ (x : PassView T). length x.numbers) view_is ∙ all ∙ sym (ap (λ (x : GateId). x.passes) (ap (λ (x : PassView T). x.gate) view_is ∙ gate)))
       (ap (λ (x : PassView T). x.claim) view_is ∙ ready.0, ap (λ (x : PassView T). x.unmarked) view_is ∙ ready.1)
 
+  -- the right to take values is no part of it
+  pub settled_without : (v : View T) → IsSettled v → IsSettled (without_right v)
+  settled_without v w = record { places = w.places; inside = w.inside; told = w.told; cut = w.cut; once = w.once; repeats = w.repeats; numbered = w.numbered; values = w.values }
+
   pub settled_view : (t : TableId) (s : ℕ) (m : At T) (p : PassView T) → pass_view t s m ≡ p → IsSettled m.0 → IsSettled (as_view p)
-  settled_view t s m p view_is w = subst (λ (x : PassView T). IsSettled (as_view x)) view_is w
+  settled_view t s m p view_is w = subst (λ (x : PassView T). IsSettled (as_view x)) view_is (settled_without m.0 w)
 
   -- so many words were found marked as the closing counts
   pub none_missing : (t : TableId) (s clients count marked : ℕ) (m n : At T) (p : PassView T) (q : GateId) → pass_view t s m ≡ p → p.gate ≡ q → p.closing ≡ Some count → length p.numbers ≡ q.passes → clients ≡ q.clients → n ≡ m → IsSettled m.0

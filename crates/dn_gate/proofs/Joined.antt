@@ -1,10 +1,11 @@
 -- A pass after a join.
 use Rattle.std.proofs.Common.{◌≡◌, ℕ, ◌<◌, min, [], length, sym, ap, subst, ◌∙◌, arith, Option, None, length-append}
 use Rattle.atomic_table.specs.Table.{Step}
-use Rattle.dn_gate.specs.Rule.{At, joined, least, Ascends, IsSettled, Settles}
+use Rattle.dn_gate.specs.Rule.{At, joined, least, without_right, Ascends, IsSettled, Settles}
 use Rattle.dn_gate.specs.Pass.{IsPass}
 use Rattle.dn_gate.specs.declared.view.View.{View}
 use Rattle.dn_gate.proofs.Least.{least-append}
+use Rattle.dn_gate.proofs.Counted.{settled_without}
 
 module _ {T : Type 0} where
   pub joined_pass : (st : Step (Option T)) (v w : View T) (m n : At T) (r number : ℕ) → m ≡ (joined v w, []) → Settles st m r n → 0 < length v.numbers → 0 < length w.numbers → number ≡ min (least v.numbers) (least w.numbers) → IsPass n number
@@ -17,7 +18,7 @@ module _ {T : Type 0} where
         ascends = subst (λ (x : At T). Ascends x.0.draws) (sym told.0) told.1;
       }
 
-  pub joined_window : (st : Step (Option T)) (v w : View T) (m n : At T) (r passes : ℕ) → m ≡ (joined v w, []) → Settles st m r n → v.claim ≡ None → v.unmarked ≡ None → v.passes ≡ passes → length n.0.numbers ≡ passes → IsSettled n.0
+  pub joined_window : (st : Step (Option T)) (v w : View T) (m n : At T) (r passes : ℕ) → m ≡ (joined v w, []) → Settles st m r n → v.claim ≡ None → v.unmarked ≡ None → v.passes ≡ passes → length n.0.numbers ≡ passes → IsSettled (without_right n.0)
   joined_window st v w m n r passes e told claim unmarked here all =
-      subst (λ (x : At T). IsSettled x.0) (sym told.0)
-      (told.2 (sym (ap (λ (x : At T). length x.0.numbers) told.0) ∙ all ∙ sym here ∙ sym (ap (λ (x : At T). x.0.passes) e)) (ap (λ (x : At T). x.0.claim) e ∙ claim, ap (λ (x : At T). x.0.unmarked) e ∙ unmarked))
+      subst (λ (x : At T). IsSettled (without_right x.0)) (sym told.0)
+      (settled_without _ (told.2 (sym (ap (λ (x : At T). length x.0.numbers) told.0) ∙ all ∙ sym here ∙ sym (ap (λ (x : At T). x.0.passes) e)) (ap (λ (x : At T). x.0.claim) e ∙ claim, ap (λ (x : At T). x.0.unmarked) e ∙ unmarked)))

@@ -7,7 +7,7 @@ use lib.ListN.{get_elem?}
 use Rattle.atomic_table.specs.Table.{Joins, Splits, opening}
 use Rattle.atomic_table.proofs.Lists.{at_set, at_snoc, set_else}
 use Rattle.dn_gate.specs.Draws.{Draw}
-use Rattle.dn_gate.specs.Rule.{total, equal, times, once_below, at_place, of_client, included_of, is_client, either_one, joined, spent, after_first, first_only, is_set, was, without_first, of_first, claims, draws_of, puts, has_closing, Fits, IsKept}
+use Rattle.dn_gate.specs.Rule.{total, equal, times, once_below, at_place, of_client, included_of, is_client, either_one, joined, spent, after_first, first_only, is_set, was, without_first, of_first, without_right, of_right, claims, draws_of, puts, is_mark, sees, has_closing, Fits, IsKept}
 use Rattle.dn_gate.specs.declared.view.View.{View}
 use Rattle.dn_gate.proofs.Sums.{total-append, total-set, term_le, terms_le, times-append, hit, below_no}
 use Rattle.dn_gate.proofs.Ranges.{length-range, range_below, times-range}
@@ -64,7 +64,7 @@ module _ (T : Type 0) (clients passes : ℕ) (before : List ℕ) where
         closing = either_cut k.cut v.closing w.closing f.closing g.closing;
         marks = λ i. omega (arith, f.marks i, g.marks i, put i, total-merge (included_of i) v.draws w.draws, ap (is_client i) no_mark);
         asked = λ n q e. ⊎_elim (λ a. f.asked n q a) (λ a. g.asked a.0 q a.1) (append_at v.repeats w.repeats n q e);
-        takes = λ e. omega (arith, length-append v.taken w.taken, f.takes (first_none v.closing w.closing e), g.takes (second_none v.closing w.closing e));
+        takes = λ e. omega (arith, length-append v.taken w.taken, f.takes (omega (arith, e)), g.takes (omega (arith, e)));
         idle = λ z. absurd (omega (arith, z, length-append v.numbers w.numbers));
       } in
       record {
@@ -77,10 +77,12 @@ module _ (T : Type 0) (clients passes : ℕ) (before : List ℕ) where
         few = omega (arith, k.few, same (λ u. length u.draws + cond (is_some u.claim) 1 0) (omega (arith, long, ap (λ o. cond {A = ℕ} (is_some o) 1 0) no_claim)));
         places = λ n. same (λ u. total (at_place n) u.draws) (omega (arith, total-merge (at_place n) v.draws w.draws)) ∙ k.places n ∙ ap (once_below n) (sym lows);
         closings = same has_closing (omega (arith, either_has v.closing w.closing most)) ∙ k.closings;
+        rights = omega (arith, same (λ u. u.right) (omega arith), k.rights);
         count = subst (λ (x : ℕ). IfSome k.cut (λ y. y ≤ x)) (sym lows) k.count;
         kinds = k.kinds;
         claimed = λ i h. omega (arith, k.claimed i h, same (claims i) (omega (arith, claim i)), same (draws_of i) (omega (arith, total-merge (of_client i) v.draws w.draws)));
         marked = λ i h. k.marked i h ∙ sym (same (puts i) (omega (arith, put i)));
+        stays = λ i h p. k.stays i h (omega (arith, same (sees i) (omega (arith, times-append i v.taken w.taken, total-append (is_mark i) v.looked w.looked)), p));
         repeated = λ o n u q a b. ⊎_elim
             (λ t. absurd (some-ne-none q (sym b ∙ ap (λ (y : View T). get_elem? y.repeats n) (sym t.1))))
             (λ t. ⊎_elim
@@ -121,17 +123,6 @@ module _ (T : Type 0) (clients passes : ℕ) (before : List ℕ) where
       either_has None b h = omega arith
       either_has (Some n) None h = omega arith
       either_has (Some n) (Some m) h = absurd (omega arith)
-
-      first_none : (a b : Option ℕ) → either_one a b ≡ None → a ≡ None
-      first_none None b e = refl
-      first_none (Some n) b e = e
-
-      second_none : (a b : Option ℕ) → either_one a b ≡ None → b ≡ None
-      second_none None b e = e
-      second_none (Some n) b e = absurd (off e)
-        where
-          off : Some n ≡ None → ⊥
-          off q = cc
 
       blank : (o : Option ℕ) → Fits {T = T} clients passes before o spent
       blank o = record {
@@ -185,16 +176,71 @@ module _ (T : Type 0) (clients passes : ℕ) (before : List ℕ) where
         few = omega (arith, k.few, same (λ x. length x.draws + cond (is_some x.claim) 1 0) refl refl);
         places = λ j. same (λ x. total (at_place j) x.draws) refl refl ∙ k.places j ∙ ap (once_below j) (sym lows);
         closings = same has_closing refl refl ∙ k.closings;
+        rights = omega (arith, same (λ u. u.right) refl refl, k.rights);
         count = subst (λ (x : ℕ). IfSome k.cut (λ y. y ≤ x)) (sym lows) k.count;
         kinds = k.kinds;
         claimed = λ i h. omega (arith, k.claimed i h, same (claims i) refl refl, same (draws_of i) refl refl);
         marked = λ i h. k.marked i h ∙ sym (same (puts i) refl refl);
+        stays = λ i h p. k.stays i h (omega (arith, same (sees i) refl refl, p));
         repeated = λ j o x q a b. ⊎_elim
             (λ t. ⊎_elim (λ y. k.repeated id o v q at (ap (λ (z : View T). get_elem? z.repeats o) y.1 ∙ b)) (λ y. k.repeated j o x q y.1 b) (at_set s.views id j w x t))
             (λ (t : u ≡ x). absurd (some-ne-none q (sym b ∙ ap (λ (z : View T). get_elem? z.repeats o) (sym t))))
             (at_snoc (set s.views id w) u x j a);
         free = k.free;
         kept = λ i j o x y a b z. let z' : total (λ q. times i q.taken) s.views ≡ 0 = sym (same (λ q. times i q.taken) refl refl) ∙ z in ⊎_elim
+            (λ t. ⊎_elim (λ c. k.kept i id o v y at (ap (λ (q : View T). get_elem? q.values o) c.1 ∙ b) z') (λ c. k.kept i j o x y c.1 b z') (at_set s.views id j w x t))
+            (λ (t : u ≡ x). absurd (some-ne-none (i, y) (sym b ∙ ap (λ (q : View T). get_elem? q.values o) (sym t))))
+            (at_snoc (set s.views id w) u x j a);
+        fits = λ j y e. ⊎_elim
+            (λ t. ⊎_elim (λ q. subst (Fits clients passes before k.cut) q.1 wf) (λ q. k.fits j y q.1) (at_set s.views id j w y t))
+            (λ (t : u ≡ y). subst (Fits clients passes before k.cut) t uf)
+            (at_snoc (set s.views id w) u y j e);
+      }
+
+  pub hands : (id : ℕ) (v : View T) → 0 < length v.numbers → length v.taken ≡ 0 → Splits (IsKept {T = T} clients passes before) id v (without_right v) (of_right v)
+  hands id v live none_taken s k at =
+      let w : View T = without_right v in
+      let u : View T = of_right v in
+      let f = k.fits id v at in
+      let both : (g : View T → ℕ) → total g (set s.views id w ++ u ∷ []) + g v ≡ total g s.views + g w + g u = λ g. omega (arith, total-append g (set s.views id w) (u ∷ []), total-set g s.views id v w at) in
+      let same : (g : View T → ℕ) → g w + g u ≡ g v → total g (set s.views id w ++ u ∷ []) ≡ total g s.views = λ g a. omega (arith, both g, a) in
+      let lows : total (λ x. length x.draws) (set s.views id w ++ u ∷ []) ≡ total (λ x. length x.draws) s.views = same (λ x. length x.draws) (omega arith) in
+      let wf : Fits clients passes before k.cut w = record { limits = f.limits; told = f.told; inside = f.inside; ascending = f.ascending; below = f.below; numbered = f.numbered; closing = f.closing; marks = f.marks; asked = f.asked; takes = λ _. none_taken; idle = f.idle } in
+      let uf : Fits clients passes before k.cut u = record {
+        limits = inl refl;
+        told = λ i d e. absurd (some-ne-none d (sym e));
+        inside = λ i d e. absurd (some-ne-none d (sym e));
+        ascending = λ i j d e lt a b. absurd (some-ne-none d (sym a));
+        below = λ i j e. absurd (some-ne-none j (sym e));
+        numbered = λ i q e. absurd (some-ne-none q (sym e));
+        closing = tt;
+        marks = λ i. refl;
+        asked = λ i q e. absurd (some-ne-none q (sym e));
+        takes = λ e. refl;
+        idle = λ z. (refl, refl, refl, refl, refl);
+      } in
+      record {
+        cut = k.cut;
+        wide = k.wide;
+        slots = k.slots;
+        numbers = same (λ x. length x.numbers) (omega arith) ∙ k.numbers;
+        once = λ j. omega (arith, same (λ x. times j x.numbers) (omega arith), k.once j);
+        control = omega (arith, lows, k.control);
+        few = omega (arith, k.few, same (λ x. length x.draws + cond (is_some x.claim) 1 0) (omega arith));
+        places = λ j. same (λ x. total (at_place j) x.draws) (omega arith) ∙ k.places j ∙ ap (once_below j) (sym lows);
+        closings = same has_closing (omega arith) ∙ k.closings;
+        rights = omega (arith, same (λ x. x.right) (omega arith), k.rights);
+        count = subst (λ (x : ℕ). IfSome k.cut (λ y. y ≤ x)) (sym lows) k.count;
+        kinds = k.kinds;
+        claimed = λ i h. omega (arith, k.claimed i h, same (claims i) (omega arith), same (draws_of i) (omega arith));
+        marked = λ i h. k.marked i h ∙ sym (same (puts i) (omega arith));
+        stays = λ i h p. k.stays i h (omega (arith, same (sees i) (omega arith), p));
+        repeated = λ j o x q a b. ⊎_elim
+            (λ t. ⊎_elim (λ y. k.repeated id o v q at (ap (λ (z : View T). get_elem? z.repeats o) y.1 ∙ b)) (λ y. k.repeated j o x q y.1 b) (at_set s.views id j w x t))
+            (λ (t : u ≡ x). absurd (some-ne-none q (sym b ∙ ap (λ (z : View T). get_elem? z.repeats o) (sym t))))
+            (at_snoc (set s.views id w) u x j a);
+        free = k.free;
+        kept = λ i j o x y a b z. let z' : total (λ q. times i q.taken) s.views ≡ 0 = sym (same (λ q. times i q.taken) (omega arith)) ∙ z in ⊎_elim
             (λ t. ⊎_elim (λ c. k.kept i id o v y at (ap (λ (q : View T). get_elem? q.values o) c.1 ∙ b) z') (λ c. k.kept i j o x y c.1 b z') (at_set s.views id j w x t))
             (λ (t : u ≡ x). absurd (some-ne-none (i, y) (sym b ∙ ap (λ (q : View T). get_elem? q.values o) (sym t))))
             (at_snoc (set s.views id w) u x j a);
@@ -224,10 +270,12 @@ module _ (T : Type 0) (clients passes : ℕ) (before : List ℕ) where
         few = omega arith;
         places = λ j. sym (below_no j 0 (omega arith));
         closings = refl;
+        rights = omega arith;
         count = tt;
         kinds = λ i h. subst (λ (x : ℕ). (x ≡ 0) ⊎ (x ≡ 1) ⊎ (x ≡ 3)) (sym (words i h)) (two (nat_lt 0 (times i before)));
         claimed = λ i h. ap is_set (words i h) ∙ set_was (nat_lt 0 (times i before)) ∙ omega arith;
         marked = λ i h. ap (λ (x : ℕ). cond {A = ℕ} (x == 3) 1 0) (words i h) ∙ not_three (nat_lt 0 (times i before));
+        stays = λ i h p. absurd (omega (arith, p));
         repeated = λ j o u q a b. absurd (nothing j u (λ x. get_elem? x.repeats o ≡ some q) a b (λ e. some-ne-none q (sym e)));
         free = λ i h z. empty_slots clients i h;
         kept = λ i j o u x a b z. absurd (nothing j u (λ y. get_elem? y.values o ≡ some (i, x)) a b (λ e. some-ne-none (i, x) (sym e)));

@@ -1,5 +1,5 @@
 -- Each step keeps the rule.
-use Rattle.std.proofs.Common.{◌≡◌, ℕ, zero, suc, ◌+◌, ◌-◌, ◌%◌, ◌^◌, ◌<◌, ◌≤◌, ◌≢◌, ◌⊎◌, List, [], ◌∷◌, ◌++◌, length, get_or, set, sym, refl, ap, ◌∙◌, subst, inl, inr, ⊎_elim, arith, bit_or, length-set, length-append, get_or-set_same, get_or-set_other, cond, is_some, is_none, IfSome, MatchOption, Option, Some, None, Bool, true, false, ◌==◌, ne_eqb}
+use Rattle.std.proofs.Common.{◌≡◌, ℕ, zero, suc, ◌+◌, ◌-◌, ◌%◌, ◌^◌, ◌<◌, ◌≤◌, ◌≢◌, ◌⊎◌, List, [], ◌∷◌, ◌++◌, length, get_or, set, sym, refl, ap, ◌∙◌, subst, inl, inr, ⊎_elim, arith, bit_or, length-set, length-append, get_or-set_same, get_or-set_other, cond, is_some, is_none, IfSome, MatchOption, Option, Some, None, Bool, true, false, ◌==◌, eq-eqb, ne_eqb}
 use mathlib.Core.Logic.{dite}
 use mathlib.Core.Option.{Option as Maybe, some, some-injective, some-ne-none, none}
 use native.Mathlib.Decide.{dec_le, ℕ_discrete}
@@ -8,11 +8,12 @@ use lib.Seq.{set-get_or}
 use Rattle.atomic_table.specs.Table.{State, step, Act, keeps, takes, gives, rest, Valid, carried_after, homes_after, stepped, Allows}
 use Rattle.atomic_table.proofs.Lists.{at_set, at_snoc, set_here, set_again, set_else}
 use Rattle.dn_gate.specs.Draws.{Draw}
-use Rattle.dn_gate.specs.Rule.{closed, after_first, is_set, was, total, equal, times, once_below, at_place, of_client, included_of, is_client, IsBefore, IsTold, view, closed_at, claims, draws_of, puts, has_closing, drew_in, drew_late, claimed, repeated, marked, took, looked_at, least, Ascends, Fits, IsKept, At, Claims, Closes, Draws, Marks, Looks, Takes, Returns, IsSettled, IsIdle, Settles}
+use Rattle.dn_gate.specs.Rule.{closed, after_first, is_set, was, total, equal, times, once_below, at_place, of_client, included_of, is_client, IsBefore, IsTold, view, closed_at, claims, draws_of, puts, has_closing, many, is_mark, sees, drew_in, drew_late, claimed, repeated, marked, took, looked_at, least, Ascends, Fits, IsKept, At, Claims, Closes, Draws, Marks, Looks, Takes, Returns, IsSettled, IsIdle, Settles}
 use Rattle.dn_gate.specs.declared.view.View.{View}
 use Rattle.dn_gate.proofs.Sums.{set_over, total-append, total-set, term_le, total_less, whole, someone, times-append, below_no, below_more, hit, miss, in_range, snoc_at}
 use Rattle.dn_gate.proofs.Bits.{close_open, close_closed}
 use Rattle.dn_gate.proofs.Least.{least_below}
+use Rattle.dn_gate.proofs.Marks.{few_seen}
 
 module _ (T : Type 0) (clients passes : ℕ) (before : List ℕ) where
   abbrev St : Type 0
@@ -96,6 +97,7 @@ module _ (T : Type 0) (clients passes : ℕ) (before : List ℕ) where
           let there : (i : ℕ) → get_or (set s.words 0 (c + 4294967296)) (i + 1) 0 ≡ get_or s.words (i + 1) 0 = λ i. get_or-set_other s.words 0 (i + 1) (c + 4294967296) 0 (λ x. omega arith) in
           let none_closed : total has_closing s.views ≡ 0 = k.closings ∙ ap (λ o. cond {A = ℕ} (is_some o) 1 0) e in
           let mine : has_closing v ≡ 0 = omega (arith, none_closed, term_le has_closing s.views id v at) in
+          let no_right : total (λ u. u.right) s.views ≡ 0 = omega (arith, k.rights, ap (λ o. cond {A = ℕ} (is_some o) 1 0) e) in
           let same_draws : (g : View T → ℕ) → g w ≡ g v → total g (set s.views id w) ≡ total g s.views = λ g q. omega (arith, total-set g s.views id v w at, q) in
           let lows : low record { words = s.words; homes = s.homes; views = set s.views id w } ≡ d = same_draws (λ u. length u.draws) refl in
           let st : St = stepped s 0 (c + 4294967296) id m.1 w keeps in
@@ -112,10 +114,12 @@ module _ (T : Type 0) (clients passes : ℕ) (before : List ℕ) where
             few = omega (arith, same_draws (λ u. length u.draws + cond (is_some u.claim) 1 0) refl, k.few, ap (total is_set) (after_first-set s.words (c + 4294967296)));
             places = λ i. same_draws (λ u. total (at_place i) u.draws) refl ∙ k.places i ∙ ap (once_below i) (sym lows);
             closings = omega (arith, total-set has_closing s.views id v w at, none_closed, mine);
+            rights = omega (arith, total-set (λ u. u.right) s.views id v w at, no_right);
             count = omega (arith, lows);
             kinds = λ i h. subst (λ (x : ℕ). (x ≡ 0) ⊎ (x ≡ 1) ⊎ (x ≡ 3)) (sym (there i)) (k.kinds i h);
             claimed = λ i h. ap is_set (there i) ∙ omega (arith, k.claimed i h, same_draws (claims i) refl, same_draws (draws_of i) refl);
             marked = λ i h. ap (λ (x : ℕ). cond {A = ℕ} (x == 3) 1 0) (there i) ∙ k.marked i h ∙ sym (same_draws (puts i) refl);
+            stays = λ i h p. there i ∙ k.stays i h (omega (arith, same_draws (sees i) refl, p));
             repeated = λ j i u q a b. subst (λ (x : ℕ). 0 < x) (sym (there q.1)) (⊎_elim
                 (λ t. k.repeated id i v q at (ap (λ l. get_elem? l i) (ap (λ (y : View T). y.repeats) t.1) ∙ b))
                 (λ t. k.repeated j i u q t.1 b)
@@ -127,7 +131,7 @@ module _ (T : Type 0) (clients passes : ℕ) (before : List ℕ) where
                 (λ t. k.kept i j n' u x t.1 b z')
                 (at_set s.views id j w u a);
             fits = λ j u q. ⊎_elim
-                (λ t. subst (Fits clients passes before (Some d)) t.1 record { limits = f.limits; told = told id v w at refl; inside = f.inside; ascending = f.ascending; below = f.below; numbered = f.numbered; closing = ap Some (sym is); marks = f.marks; asked = f.asked; takes = λ x. absurd (some_none x); idle = λ z. absurd (omega arith) })
+                (λ t. subst (Fits clients passes before (Some d)) t.1 record { limits = f.limits; told = told id v w at refl; inside = f.inside; ascending = f.ascending; below = f.below; numbered = f.numbered; closing = ap Some (sym is); marks = f.marks; asked = f.asked; takes = λ x. absurd (omega arith); idle = λ z. absurd (omega arith) })
                 (λ t. let g = k.fits j u t.1 in record { limits = g.limits; told = told j u u t.1 refl; inside = g.inside; ascending = g.ascending; below = g.below; numbered = g.numbered; closing = unclosed u.closing (subst (λ o. IfSome u.closing (λ n'. o ≡ Some n')) e g.closing); marks = g.marks; asked = g.asked; takes = g.takes; idle = g.idle })
                 (at_set s.views id j w u q);
           } in (
@@ -135,7 +139,7 @@ module _ (T : Type 0) (clients passes : ℕ) (before : List ℕ) where
             keeps,
             tt,
             subst (λ x. Kept (stepped s 0 x id m.1 w keeps)) (sym up) kept,
-            ((λ _. (open_view k.cut v.closing e f.closing, refl)), λ above. absurd (omega arith)),
+            ((λ _. (open_view k.cut v.closing e f.closing, refl, f.takes (omega (arith, no_right, term_le (λ u. u.right) s.views id v at)))), λ above. absurd (omega arith)),
           )
       by (Some count) e =
           let c : ℕ = get_or s.words 0 0 in
@@ -178,11 +182,11 @@ module _ (T : Type 0) (clients passes : ℕ) (before : List ℕ) where
   drew : (s : St) (k : Kept s) (id i : ℕ) (v : View T) (d : Draw) (un : Option ℕ) (homes : List (Maybe (Option T))) → i < clients → clients ≤ 512 → 0 < length v.numbers → get_elem? s.views id ≡ some v → v.claim ≡ Some i → v.unmarked ≡ None
       → d.client ≡ i → d.place ≡ low s → IsTold k.cut d → ((j : ℕ) → is_client j un ≡ included_of j d)
       → length homes ≡ clients → ((j : ℕ) → j ≢ i → get_elem? homes j ≡ get_elem? s.homes j)
-      → Kept record { words = set s.words 0 (get_or s.words 0 0 + 1); homes = homes; views = set s.views id (view v.passes v.clients v.before v.numbers None un (v.draws ++ d ∷ []) v.values v.repeats v.closing v.looked v.taken) }
+      → Kept record { words = set s.words 0 (get_or s.words 0 0 + 1); homes = homes; views = set s.views id (view v.passes v.clients v.before v.numbers None un (v.draws ++ d ∷ []) v.values v.repeats v.closing v.looked v.taken v.right) }
   drew s k id i v d un homes inside small live at claim unmarked_is client place is_told un_is wide same_home =
       let c : ℕ = get_or s.words 0 0 in
       let f = k.fits id v at in
-      let w : View T = view v.passes v.clients v.before v.numbers None un (v.draws ++ d ∷ []) v.values v.repeats v.closing v.looked v.taken in
+      let w : View T = view v.passes v.clients v.before v.numbers None un (v.draws ++ d ∷ []) v.values v.repeats v.closing v.looked v.taken v.right in
       let here : get_or (set s.words 0 (c + 1)) 0 0 ≡ c + 1 = get_or-set_same s.words 0 (c + 1) 0 (omega (arith, k.wide)) in
       let there : (j : ℕ) → get_or (set s.words 0 (c + 1)) (j + 1) 0 ≡ get_or s.words (j + 1) 0 = λ j. get_or-set_other s.words 0 (j + 1) (c + 1) 0 (λ x. omega arith) in
       let same : (g : View T → ℕ) → g w ≡ g v → total g (set s.views id w) ≡ total g s.views = λ g q. omega (arith, total-set g s.views id v w at, q) in
@@ -200,10 +204,12 @@ module _ (T : Type 0) (clients passes : ℕ) (before : List ℕ) where
         few = omega (arith, total-set (λ u. length u.draws + cond (is_some u.claim) 1 0) s.views id v w at, k.few, ap (total is_set) (after_first-set s.words (c + 1)), length-append v.draws (d ∷ []), ap (λ o. cond {A = ℕ} (is_some o) 1 0) claim);
         places = λ j. omega (arith, total-set (λ u. total (at_place j) u.draws) s.views id v w at, k.places j, total-append (at_place j) v.draws (d ∷ []), ap (λ x. equal x j) place, below_more j (low s), ap (once_below j) lows);
         closings = same has_closing refl ∙ k.closings;
+        rights = omega (arith, same (λ u. u.right) refl, k.rights);
         count = counts k.cut k.count lows;
         kinds = λ j h. subst (λ (x : ℕ). (x ≡ 0) ⊎ (x ≡ 1) ⊎ (x ≡ 3)) (sym (there j)) (k.kinds j h);
         claimed = λ j h. ap is_set (there j) ∙ omega (arith, k.claimed j h, total-set (claims j) s.views id v w at, total-set (draws_of j) s.views id v w at, drawn j, had j);
         marked = λ j h. ap (λ (x : ℕ). cond {A = ℕ} (x == 3) 1 0) (there j) ∙ k.marked j h ∙ sym (same (puts j) refl);
+        stays = λ j h p. there j ∙ k.stays j h (omega (arith, same (sees j) refl, p));
         repeated = λ j n' u q a b. subst (λ (x : ℕ). 0 < x) (sym (there q.1)) (⊎_elim
             (λ t. k.repeated id n' v q at (ap (λ l. get_elem? l n') (ap (λ (y : View T). y.repeats) t.1) ∙ b))
             (λ t. k.repeated j n' u q t.1 b)
@@ -305,7 +311,7 @@ module _ (T : Type 0) (clients passes : ℕ) (before : List ℕ) where
 
   -- the word of client i becomes n, and the seat id goes from v to w, with the same draws
   client_step : (s : St) (k : Kept s) (id i n : ℕ) (v w : View T) (homes : List (Maybe (Option T))) → i < clients → get_elem? s.views id ≡ some v
-      → w.numbers ≡ v.numbers → w.draws ≡ v.draws → w.closing ≡ v.closing
+      → w.numbers ≡ v.numbers → w.draws ≡ v.draws → w.closing ≡ v.closing → w.right ≡ v.right
       → (n ≡ 1) ⊎ (n ≡ 3)
       → cond {A = ℕ} (is_some w.claim) 1 0 + is_set (get_or s.words (i + 1) 0) ≡ cond {A = ℕ} (is_some v.claim) 1 0 + is_set n
       → is_client i w.claim + is_set (get_or s.words (i + 1) 0) ≡ is_client i v.claim + is_set n
@@ -316,10 +322,11 @@ module _ (T : Type 0) (clients passes : ℕ) (before : List ℕ) where
       → length homes ≡ clients → ((j : ℕ) → j ≢ i → get_elem? homes j ≡ get_elem? s.homes j)
       → ((j : ℕ) (x : T) (c : ℕ) → c ≢ i → get_elem? w.values j ≡ some (c, x) → get_elem? v.values j ≡ some (c, x))
       → ((j : ℕ) → j ≢ i → times j w.taken ≡ times j v.taken)
+      → w.looked ≡ v.looked → (0 < total (sees i) (set s.views id w) → n ≡ 3)
       → ((o j : ℕ) (u : View T) (x : T) → get_elem? (set s.views id w) o ≡ some u → get_elem? u.values j ≡ some (i, x) → total (λ y. times i y.taken) (set s.views id w) ≡ 0 → get_elem? homes i ≡ some (some (Some x)))
       → Fits clients passes before k.cut w
       → Kept record { words = set s.words (i + 1) n; homes = homes; views = set s.views id w }
-  client_step s k id i n v w homes inside at nums drs cls kind few_is claim_i claim_j puts_i puts_j reps wide same_home vals took_j kept_i fit =
+  client_step s k id i n v w homes inside at nums drs cls rgt kind few_is claim_i claim_j puts_i puts_j reps wide same_home vals took_j lks marked_i kept_i fit =
       let here : get_or (set s.words (i + 1) n) (i + 1) 0 ≡ n = get_or-set_same s.words (i + 1) n 0 (omega (arith, k.wide)) in
       let there : (j : ℕ) → j ≢ i → get_or (set s.words (i + 1) n) (j + 1) 0 ≡ get_or s.words (j + 1) 0 = λ j ne. get_or-set_other s.words (i + 1) (j + 1) n 0 (λ e. ne (omega arith)) in
       let ctrl : get_or (set s.words (i + 1) n) 0 0 ≡ get_or s.words 0 0 = get_or-set_other s.words (i + 1) 0 n 0 (λ e. omega arith) in
@@ -345,6 +352,7 @@ module _ (T : Type 0) (clients passes : ℕ) (before : List ℕ) where
         );
         places = λ j. same (λ u. total (at_place j) u.draws) (ap (total (at_place j)) drs) ∙ k.places j ∙ ap (once_below j) (sym lows);
         closings = same has_closing (ap (λ o. cond {A = ℕ} (is_some o) 1 0) cls) ∙ k.closings;
+        rights = omega (arith, same (λ u. u.right) rgt, k.rights);
         count = subst (λ (x : ℕ). IfSome k.cut (λ y. y ≤ x)) (sym lows) k.count;
         kinds = λ j h. dite (ℕ_discrete j i)
             (λ e. subst (λ (x : ℕ). (x ≡ 0) ⊎ (x ≡ 1) ⊎ (x ≡ 3)) (sym here ∙ ap (λ (x : ℕ). get_or (set s.words (i + 1) n) (x + 1) 0) (sym e)) (inr kind))
@@ -357,6 +365,9 @@ module _ (T : Type 0) (clients passes : ℕ) (before : List ℕ) where
             (λ e. subst (λ (x : ℕ). cond (get_or (set s.words (i + 1) n) (x + 1) 0 == 3) 1 0 ≡ total (puts x) (set s.views id w)) (sym e)
             (omega (arith, ap (λ (x : ℕ). cond {A = ℕ} (x == 3) 1 0) here, k.marked i inside, puts_i, total-set (puts i) s.views id v w at)))
             (λ ne. ap (λ (x : ℕ). cond {A = ℕ} (x == 3) 1 0) (there j ne) ∙ k.marked j h ∙ sym (same (puts j) (puts_j j ne)));
+        stays = λ j h p. dite (ℕ_discrete j i)
+            (λ e. subst (λ (x : ℕ). get_or (set s.words (i + 1) n) (x + 1) 0 ≡ 3) (sym e) (here ∙ marked_i (subst (λ (x : ℕ). 0 < total (sees x) (set s.views id w)) e p)))
+            (λ ne. there j ne ∙ k.stays j h (omega (arith, same (sees j) (omega (arith, took_j j ne, ap (total (is_mark j)) lks)), p)));
         repeated = λ j o u q a b. dite (ℕ_discrete q.1 i)
             (λ e. subst (λ (x : ℕ). 0 < x) (sym here ∙ ap (λ (x : ℕ). get_or (set s.words (i + 1) n) (x + 1) 0) (sym e)) (⊎_elim (λ (d : n ≡ 1). omega arith) (λ (d : n ≡ 3). omega arith) kind))
             (λ ne. subst (λ (x : ℕ). 0 < x) (sym (there q.1 ne)) (⊎_elim
@@ -402,7 +413,7 @@ module _ (T : Type 0) (clients passes : ℕ) (before : List ℕ) where
             takes i None,
             k.free i inside z,
             subst (λ (x : ℕ). Kept (stepped s (i + 1) x id m.1 w (takes i None))) (sym up)
-                (client_step s k id i 1 v w (set s.homes i none) inside at refl refl refl (inl refl)
+                (client_step s k id i 1 v w (set s.homes i none) inside at refl refl refl refl (inl refl)
                 (omega (arith, unset, ap (λ o. cond {A = ℕ} (is_some o) 1 0) idle))
                 (omega (arith, unset, no_claim i, hit i i refl))
                 (λ j ne. miss i j (λ e. ne (sym e)) ∙ sym (no_claim j))
@@ -413,6 +424,8 @@ module _ (T : Type 0) (clients passes : ℕ) (before : List ℕ) where
                 (λ j ne. set_else s.homes i j none ne)
                 (λ j x c ne e. e)
                 (λ j ne. refl)
+                refl
+                (λ p. absurd (omega (arith, z, k.stays i inside (omega (arith, total-set (sees i) s.views id v w at, p)))))
                 (λ o j u x a b c. ⊎_elim
                 (λ t. absurd (omega (arith, no_puts, term_le (puts i) s.views id v at, puts_one i j v.values x (ap (λ l. get_elem? l j) (ap (λ (y : View T). y.values) t.1) ∙ b))))
                 (λ t. absurd (omega (arith, no_puts, term_le (puts i) s.views o u t.1, puts_one i j u.values x b)))
@@ -432,12 +445,14 @@ module _ (T : Type 0) (clients passes : ℕ) (before : List ℕ) where
             keeps,
             tt,
             subst (λ (x : ℕ). Kept (stepped s (i + 1) x id m.1 w keeps)) (sym same)
-                (client_step s k id i r v w s.homes inside at refl refl refl kind refl refl (λ j ne. refl) refl (λ j ne. refl)
+                (client_step s k id i r v w s.homes inside at refl refl refl refl kind refl refl (λ j ne. refl) refl (λ j ne. refl)
                 (λ j q e. ⊎_elim (λ t. inl t) (λ (t : (least v.numbers, i) ≡ q). inr (sym (ap (λ (x : ℕ × ℕ). x.1) t))) (at_snoc v.repeats (least v.numbers, i) q j e))
                 k.slots
                 (λ j ne. refl)
                 (λ j x c ne e. e)
                 (λ j ne. refl)
+                refl
+                (λ p. k.stays i inside (omega (arith, total-set (sees i) s.views id v w at, p)))
                 (λ o j u x a b c. ⊎_elim
                 (λ t. k.kept i id j v x at (ap (λ l. get_elem? l j) (ap (λ (y : View T). y.values) t.1) ∙ b) (sym took ∙ c))
                 (λ t. k.kept i o j u x t.1 b (sym took ∙ c))
@@ -498,7 +513,7 @@ module _ (T : Type 0) (clients passes : ℕ) (before : List ℕ) where
         gives,
         tt,
         subst (λ (y : ℕ × List (ℕ × Option T)). Kept (stepped s (i + 1) y.0 id y.1 w gives)) (λ h. (sym up h, sym out h))
-            (client_step s k id i 3 v w (set s.homes i (some (Some x))) inside at refl refl refl (inr refl)
+            (client_step s k id i 3 v w (set s.homes i (some (Some x))) inside at refl refl refl refl (inr refl)
             (omega (arith, set_it))
             (omega (arith, set_it))
             (λ j ne. refl)
@@ -509,6 +524,8 @@ module _ (T : Type 0) (clients passes : ℕ) (before : List ℕ) where
             (λ j ne. set_else s.homes i j (some (Some x)) ne)
             (λ j y c ne e. ⊎_elim (λ t. t) (λ (t : (i, x) ≡ (c, y)). absurd (ne (sym (ap (λ (q : ℕ × T). q.0) t)))) (at_snoc v.values (i, x) (c, y) j e))
             (λ j ne. refl)
+            refl
+            (λ p. refl)
             (λ o j u y a b c. ⊎_elim
             (λ t. ⊎_elim
             (λ g. absurd (omega (arith, mine, puts_one i j v.values y g)))
@@ -536,24 +553,19 @@ module _ (T : Type 0) (clients passes : ℕ) (before : List ℕ) where
       named : (c : ℕ) → 0 < equal c i → c ≡ i
       named c h = dite (ℕ_discrete c i) (λ e. e) (λ ne. absurd (omega (arith, miss c i ne)))
 
-  pub takes_word : (n id : ℕ) (m : At T) (i : ℕ) → 0 < length m.0.numbers → i < clients → m.0.closing ≢ None → times i m.0.taken ≡ 0
+  cut_most : (o : Option ℕ) → cond {A = ℕ} (is_some o) 1 0 ≤ 1
+  cut_most None = omega arith
+  cut_most (Some x) = omega arith
+
+  pub takes_word : (n id : ℕ) (m : At T) (i : ℕ) → 0 < length m.0.numbers → i < clients → 0 < m.0.right → times i m.0.taken ≡ 0
       → Allows Kept n id m (i + 1) (λ y. y) (Takes (step n (i + 1) 0 0 none) m)
-  takes_word n id m i live inside closer untaken s k wide at _ = by (ℕ_discrete (get_or s.words (i + 1) 0) 3)
+  takes_word n id m i live inside has untaken s k wide at _ = by (ℕ_discrete (get_or s.words (i + 1) 0) 3)
     where
       back : i + 1 - 1 ≡ i
       back = omega arith
 
-      closing_one : (o : Option ℕ) → (o ≡ None → ⊥) → cond {A = ℕ} (is_some o) 1 0 ≡ 1
-      closing_one None h = absurd (h refl)
-      closing_one (Some x) h = refl
-
-      no_closing : (o : Option ℕ) → cond {A = ℕ} (is_some o) 1 0 ≡ 0 → o ≡ None
-      no_closing None h = refl
-      no_closing (Some x) h = absurd (omega arith)
-
-      cut_most : (o : Option ℕ) → cond {A = ℕ} (is_some o) 1 0 ≤ 1
-      cut_most None = omega arith
-      cut_most (Some x) = omega arith
+      seen : 0 < total (is_mark (i + 1 - 1)) m.0.looked → get_or s.words (i + 1) 0 ≡ 3
+      seen p = k.stays i inside (omega (arith, p, ap (λ (c : ℕ). total (is_mark c) m.0.looked) back, term_le (sees i) s.views id m.0 at))
 
       empty_times : (xs : List ℕ) → length xs ≡ 0 → times i xs ≡ 0
       empty_times [] e = refl
@@ -565,16 +577,15 @@ module _ (T : Type 0) (clients passes : ℕ) (before : List ℕ) where
         keeps,
         tt,
         subst (λ (x : List ℕ × List (View T)). Kept record { words = x.0; homes = s.homes; views = x.1 }) (λ h. (sym (set-get_or s.words (i + 1) 0) h, sym (set_again s.views id m.0 at) h)) k,
-        ((λ _. refl), (λ e. absurd (other e)), λ all. knows_mark s k id i m.0 live inside at all ∙ ap (λ (x : ℕ). puts x m.0) (sym back)),
+        ((λ _. refl), (λ e. absurd (other e)), (λ all. knows_mark s k id i m.0 live inside at all ∙ ap (λ (x : ℕ). puts x m.0) (sym back)), seen),
       )
       by (yes three) =
           let v : View T = m.0 in
           let f = k.fits id v at in
           let w : View T = took v i in
-          let mine : has_closing v ≡ 1 = closing_one v.closing closer in
-          let alone : total has_closing s.views ≡ has_closing v = omega (arith, k.closings, cut_most k.cut, term_le has_closing s.views id v at, mine) in
+          let alone : total (λ u. u.right) s.views ≡ v.right = omega (arith, k.rights, cut_most k.cut, term_le (λ u. u.right) s.views id v at, has) in
           let none_taken : total (λ u. times i u.taken) s.views ≡ 0 =
-          whole (λ u. times i u.taken) has_closing s.views id v (λ j u e z. empty_times u.taken ((k.fits j u e).takes (no_closing u.closing z))) at alone ∙ untaken in
+          whole (λ u. times i u.taken) (λ u. u.right) s.views id v (λ j u e z. empty_times u.taken ((k.fits j u e).takes z)) at alone ∙ untaken in
           let one : total (puts i) s.views ≡ 1 = sym (k.marked i inside) ∙ ap (λ (y : ℕ). cond {A = ℕ} (y == 3) 1 0) three in
           let who = someone (puts i) s.views (omega arith) in
           let what = value_of i who.1.values who.3 in
@@ -584,18 +595,21 @@ module _ (T : Type 0) (clients passes : ℕ) (before : List ℕ) where
             w,
             takes i (Some x),
             home,
-            client_step s k id i (get_or s.words (i + 1) 0) v w (set s.homes i none) inside at refl refl refl (inr three) refl refl (λ j ne. refl) refl (λ j ne. refl)
+            client_step s k id i (get_or s.words (i + 1) 0) v w (set s.homes i none) inside at refl refl refl refl (inr three) refl refl (λ j ne. refl) refl (λ j ne. refl)
                 (λ j q e. inl e)
                 (length-set s.homes i none ∙ k.slots)
                 (λ j ne. set_else s.homes i j none ne)
                 (λ j y c ne e. e)
                 (λ j ne. omega (arith, times-append j v.taken (i ∷ []), miss i j (λ e. ne (sym e))))
+                refl
+                (λ p. three)
                 (λ o j u y a b c. absurd (omega (arith, now, c)))
-                record { limits = f.limits; told = f.told; inside = f.inside; ascending = f.ascending; below = f.below; numbered = f.numbered; closing = f.closing; marks = f.marks; asked = f.asked; takes = λ q. absurd (closer q); idle = λ y. absurd (omega arith) },
+                record { limits = f.limits; told = f.told; inside = f.inside; ascending = f.ascending; below = f.below; numbered = f.numbered; closing = f.closing; marks = f.marks; asked = f.asked; takes = λ q. absurd (omega (arith, q, has)); idle = λ y. absurd (omega arith) },
             (
               (λ ne. absurd (ne three)),
               (λ _. (x, ap (λ (c : ℕ). (took v c, (c, Some x) ∷ m.1)) (sym back), λ j y e. same_value x y home (k.kept i id j v y at (e ∙ ap (λ (c : ℕ). some (c, y)) back) none_taken))),
               (λ all. knows_mark s k id i m.0 live inside at all ∙ ap (λ (c : ℕ). puts c m.0) (sym back)),
+              seen,
             ),
           )
         where
@@ -620,10 +634,12 @@ module _ (T : Type 0) (clients passes : ℕ) (before : List ℕ) where
           few = k.few;
           places = k.places;
           closings = k.closings;
+          rights = k.rights;
           count = k.count;
           kinds = k.kinds;
           claimed = k.claimed;
           marked = k.marked;
+          stays = k.stays;
           repeated = k.repeated;
           free = λ j h z. dite (ℕ_discrete j i)
               (λ e. ap (λ (c : ℕ). get_elem? (set s.homes i (some None)) c) e ∙ set_here s.homes i (some None) (omega (arith, inside, k.slots)))
@@ -634,10 +650,16 @@ module _ (T : Type 0) (clients passes : ℕ) (before : List ℕ) where
     refl,
   )
 
+  -- a word is counted where it was found marked
+  marked_at_it : (j c r : ℕ) → (is_mark j (c, r) ≡ 0) ⊎ ((j ≡ c) × (r ≡ 3))
+  marked_at_it j c r = dite (ℕ_discrete r 3)
+      (λ e. dite (ℕ_discrete j c) (λ d. inr (d, e)) (λ ne. inl (ap (λ b. cond b (equal c j) 0) (eq-eqb r 3 e) ∙ miss c j (λ d. ne (sym d)))))
+      (λ ne. inl (ap (λ b. cond b (equal c j) 0) (ne_eqb r 3 ne)))
+
   -- a look at a word
-  quiet : (s : St) (k : Kept s) (id r : ℕ) (v : View T) → 0 < length v.numbers → get_elem? s.views id ≡ some v → Kept record { words = s.words; homes = s.homes; views = set s.views id (looked_at v r) }
-  quiet s k id r v live at =
-      let w : View T = looked_at v r in
+  quiet : (s : St) (k : Kept s) (id c r : ℕ) (v : View T) → 0 < length v.numbers → get_elem? s.views id ≡ some v → get_or s.words (c + 1) 0 ≡ r → Kept record { words = s.words; homes = s.homes; views = set s.views id (looked_at v c r) }
+  quiet s k id c r v live at found =
+      let w : View T = looked_at v c r in
       let f = k.fits id v at in
       let same : (g : View T → ℕ) → g w ≡ g v → total g (set s.views id w) ≡ total g s.views = λ g q. omega (arith, total-set g s.views id v w at, q) in
       let lows : total (λ u. length u.draws) (set s.views id w) ≡ low s = same (λ u. length u.draws) refl in
@@ -651,15 +673,20 @@ module _ (T : Type 0) (clients passes : ℕ) (before : List ℕ) where
         few = omega (arith, same (λ u. length u.draws + cond (is_some u.claim) 1 0) refl, k.few);
         places = λ j. same (λ u. total (at_place j) u.draws) refl ∙ k.places j ∙ ap (once_below j) (sym lows);
         closings = same has_closing refl ∙ k.closings;
+        rights = omega (arith, same (λ u. u.right) refl, k.rights);
         count = subst (λ (x : ℕ). IfSome k.cut (λ y. y ≤ x)) (sym lows) k.count;
         kinds = k.kinds;
         claimed = λ j h. omega (arith, k.claimed j h, same (claims j) refl, same (draws_of j) refl);
         marked = λ j h. k.marked j h ∙ sym (same (puts j) refl);
+        stays = λ j h p. ⊎_elim
+            (λ e. k.stays j h (omega (arith, total-set (sees j) s.views id v w at, total-append (is_mark j) v.looked ((c, r) ∷ []), e, p)))
+            (λ (e : (j ≡ c) × (r ≡ 3)). ap (λ (x : ℕ). get_or s.words (x + 1) 0) e.0 ∙ found ∙ e.1)
+            (marked_at_it j c r);
         repeated = λ j o u q a b. ⊎_elim (λ t. k.repeated id o v q at (ap (λ l. get_elem? l o) (ap (λ (y : View T). y.repeats) t.1) ∙ b)) (λ t. k.repeated j o u q t.1 b) (at_set s.views id j w u a);
         free = k.free;
-        kept = λ c o j u x a b z. let z' : total (λ y. times c y.taken) s.views ≡ 0 = sym (same (λ y. times c y.taken) refl) ∙ z in ⊎_elim
-            (λ t. k.kept c id j v x at (ap (λ l. get_elem? l j) (ap (λ (y : View T). y.values) t.1) ∙ b) z')
-            (λ t. k.kept c o j u x t.1 b z')
+        kept = λ i o j u x a b z. let z' : total (λ y. times i y.taken) s.views ≡ 0 = sym (same (λ y. times i y.taken) refl) ∙ z in ⊎_elim
+            (λ t. k.kept i id j v x at (ap (λ l. get_elem? l j) (ap (λ (y : View T). y.values) t.1) ∙ b) z')
+            (λ t. k.kept i o j u x t.1 b z')
             (at_set s.views id o w u a);
         fits = λ j u q. ⊎_elim
             (λ t. subst (Fits clients passes before k.cut) t.1 record { limits = f.limits; told = f.told; inside = f.inside; ascending = f.ascending; below = f.below; numbered = f.numbered; closing = f.closing; marks = f.marks; asked = f.asked; takes = f.takes; idle = λ y. absurd (omega arith) })
@@ -671,11 +698,11 @@ module _ (T : Type 0) (clients passes : ℕ) (before : List ℕ) where
   looks_word n id m i live inside s k wide at _ =
       let back : i + 1 - 1 ≡ i = omega arith in
       let r : ℕ = get_or s.words (i + 1) 0 in (
-        looked_at m.0 r,
+        looked_at m.0 i r,
         keeps,
         tt,
-        subst (λ ws. Kept record { words = ws; homes = s.homes; views = set s.views id (looked_at m.0 r) }) (sym (set-get_or s.words (i + 1) 0)) (quiet s k id r m.0 live at),
-        (refl, λ all. knows_mark s k id i m.0 live inside at all ∙ ap (λ (x : ℕ). puts x m.0) (sym back)),
+        subst (λ ws. Kept record { words = ws; homes = s.homes; views = set s.views id (looked_at m.0 i r) }) (sym (set-get_or s.words (i + 1) 0)) (quiet s k id i r m.0 live at refl),
+        (ap (λ (c : ℕ). (looked_at m.0 c r, m.1)) (sym back), λ all. knows_mark s k id i m.0 live inside at all ∙ ap (λ (x : ℕ). puts x m.0) (sym back)),
       )
 
   -- in an ascending list of draws whose places fill a range, each has its rank
@@ -739,8 +766,15 @@ module _ (T : Type 0) (clients passes : ℕ) (before : List ℕ) where
     keeps,
     tt,
     subst (λ (x : List ℕ × List (View T)). Kept record { words = x.0; homes = s.homes; views = x.1 }) (λ h. (sym (set-get_or s.words 0 0) h, sym (set_again s.views id m.0 at) h)) k,
-    (refl, (k.fits id m.0 at).ascending, λ all idle. window_of s k id m.0 live at all idle),
+    (refl, (k.fits id m.0 at).ascending, (λ all idle. window_of s k id m.0 live at all idle), omega (arith, k.rights, cut_most k.cut, term_le (λ u. u.right) s.views id m.0 at), (k.fits id m.0 at).takes, most m.0.closing (k.fits id m.0 at).closing),
   )
+    where
+      lim : (m.0.clients ≡ clients) × (m.0.passes ≡ passes) × (m.0.before ≡ before)
+      lim = ⊎_elim (λ e. absurd (omega arith)) (λ e. e) (k.fits id m.0 at).limits
+
+      most : (o : Option ℕ) → IfSome o (λ n'. k.cut ≡ Some n') → IfSome o (λ count. many (λ i. sees i m.0) m.0.clients ≤ count)
+      most None h = tt
+      most (Some count) h = few_seen T clients passes before s k id m.0 count at h m.0.clients (omega (arith, lim.0))
 
   -- what the seat has once the value is put into the slot
   put : (m m' : At T) (i : ℕ) (held : Option T) (x : T) → m.1 ≡ (i, held) ∷ [] → m' ≡ (m.0, (i, Some x) ∷ rest m.1) → m' ≡ (m.0, (i, Some x) ∷ [])

@@ -1,6 +1,7 @@
 pub mod Sums
 pub mod Bits
 pub mod Least
+pub mod Marks
 pub mod Keeps
 pub mod Merges
 pub mod Ranges
@@ -8,7 +9,9 @@ pub mod Joins
 pub mod Joined
 pub mod Made
 pub mod Looked
+pub mod Rights
 pub mod Stepped
 pub mod Collects
+pub mod Complete
 pub mod Counted
 pub mod Histories

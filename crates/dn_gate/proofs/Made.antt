@@ -56,11 +56,11 @@ all_at P Q f (x ∷ xs) h (suc k) d lt = all_at (λ i. P (suc i)) Q (λ i. f (su
 
 module _ {T : Type 0} where
   pub new_of : (gate : GateId) (i : ℕ) (p : PassView T) → IsFresh gate i p → IsNew gate p
-  new_of gate i p f = (f.gate_is, (f.nothing.4, f.nothing.5), f.nothing.3, f.nothing.7)
+  new_of gate i p f = (f.gate_is, (f.nothing.4, f.nothing.5), f.nothing.3)
 
   -- a view that has done nothing
   abbrev pub idle_view : ℕ → ℕ → List ℕ → List ℕ → View T
-  idle_view passes clients before numbers = view passes clients before numbers None None [] [] [] None [] []
+  idle_view passes clients before numbers = view passes clients before numbers None None [] [] [] None [] [] 0
 
   pub cuts_at : (clients p : ℕ) (b : List ℕ) (id passes n k c : ℕ) (d : List ℕ) (m : At T) → m ≡ (idle_view passes c d (range n k), []) → 1 < k
       → Splits (IsKept {T = T} clients p b) id m.0 (without_first m.0) (of_first m.0)

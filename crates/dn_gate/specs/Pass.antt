@@ -19,7 +19,7 @@ pub record GateId : Type 0 where
 
 -- a pass: its gate, which of the gate's seats it is, the numbers of the passes that it stands for, its draws by place, the clients that it marked with the values that
 -- it put, its repeats with the number of the pass that made each, the count of its closing; where it is between a claim and its mark: the client that it claimed, or that
--- it drew for and didn't mark, and the slots that it holds; the words that it looked at, and the clients whose values it took
+-- it drew for and didn't mark, and the slots that it holds; the clients whose words it looked at, each with the word that it found, and the clients whose values it took
 pub record PassView (T : Type 0) : Type 0 where
   pub gate : GateId
   pub seat : ℕ
@@ -31,7 +31,7 @@ pub record PassView (T : Type 0) : Type 0 where
   pub claim : Option ℕ
   pub unmarked : Option ℕ
   pub held : List (ℕ × Option T)
-  pub looked : List ℕ
+  pub looked : List (ℕ × ℕ)
   pub taken : List ℕ
 
 -- a closing: its gate, and how many draws there were before
@@ -67,13 +67,17 @@ module _ {T : Type 0} where
   abbrev pub IsSamePass : PassView T → PassView T → Type 0
   IsSamePass p q = (q.gate ≡ p.gate) × (q.seat ≡ p.seat) × (q.numbers ≡ p.numbers) × (q.looked ≡ p.looked) × (q.taken ≡ p.taken)
 
-  -- the pass, or one joined into it, made the closing, and it took no value
+  -- the pass, or one joined into it, made the closing
   abbrev pub IsClosingOf : PassView T → ClosingView → Type 0
-  IsClosingOf p c = (c.gate ≡ p.gate) × (p.closing ≡ Some c.count) × (p.taken ≡ [])
+  IsClosingOf p c = (c.gate ≡ p.gate) × (p.closing ≡ Some c.count)
+
+  -- what a closing keeps: the right to take values, and nothing else
+  abbrev pub IsRight : Me (Option T) (View T) → Type 0
+  IsRight me = me ≡ (view me.0.passes me.0.clients me.0.before [] None None [] [] [] None [] [] 1, [])
 
   -- a pass's view again
   abbrev pub as_view : PassView T → View T
-  as_view p = view p.gate.passes p.gate.clients p.gate.before p.numbers p.claim p.unmarked p.draws p.values p.repeats p.closing p.looked p.taken
+  as_view p = view p.gate.passes p.gate.clients p.gate.before p.numbers p.claim p.unmarked p.draws p.values p.repeats p.closing p.looked p.taken 0
 
   -- pass i, as `make` gives it
   pub record IsFresh (gate : GateId) (i : ℕ) (p : PassView T) : Type 0 where
@@ -83,4 +87,4 @@ module _ {T : Type 0} where
 
   -- a pass that took no part in a closing
   abbrev pub IsNew : GateId → PassView T → Type 0
-  IsNew gate p = (p.gate ≡ gate) × IsReady p × (p.closing ≡ None) × (p.taken ≡ [])
+  IsNew gate p = (p.gate ≡ gate) × IsReady p × (p.closing ≡ None)

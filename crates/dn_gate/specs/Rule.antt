@@ -1,5 +1,5 @@
 -- The rule of the gate's words and slots, and what each step tells. Word 0 is the control word, word i + 1 that of client i, and slot i the client's.
-use Rattle.std.specs.Prelude.{◌≡◌, ◌≢◌, ℕ, ◌+◌, ◌-◌, ◌*◌, ◌^◌, ◌<◌, ◌≤◌, ◌⊎◌, Bool, true, false, List, [], ◌∷◌, ◌++◌, length, map, cond, nat_lt, nat_le, ◌==◌, count_by, slice_index, Option, Some, None, is_some, is_none, IfSome, MatchOption}
+use Rattle.std.specs.Prelude.{◌≡◌, ◌≢◌, ℕ, zero, suc, ◌+◌, ◌-◌, ◌*◌, ◌^◌, ◌<◌, ◌≤◌, ◌⊎◌, Bool, true, false, List, [], ◌∷◌, ◌++◌, length, map, cond, nat_lt, nat_le, ◌==◌, count_by, slice_index, Option, Some, None, is_some, is_none, IfSome, MatchOption}
 use mathlib.Core.Option.{some}
 use lib.ListN.{get_elem?}
 use Rattle.atomic_table.specs.Table.{State, Me, Step, rest}
@@ -13,6 +13,11 @@ closed = 4294967296
 abbrev pub total : {A : Type 0} → (A → ℕ) → List A → ℕ
 total f [] = 0
 total f (x ∷ xs) = f x + total f xs
+
+-- at how many of the numbers below n f isn't 0
+abbrev pub many : (ℕ → ℕ) → ℕ → ℕ
+many f zero = 0
+many f (suc n) = many f n + cond (nat_lt 0 (f n)) 1 0
 
 abbrev pub equal : ℕ → ℕ → ℕ
 equal y x = cond (y == x) 1 0
@@ -54,6 +59,10 @@ included_of i d = cond (is_none d.late) (equal d.client i) 0
 abbrev pub at_place : ℕ → Draw → ℕ
 at_place k d = equal d.place k
 
+-- 1 where it is the client's word, and was found marked
+abbrev pub is_mark : ℕ → ℕ × ℕ → ℕ
+is_mark i p = cond (p.1 == 3) (equal p.0 i) 0
+
 -- the place is one of those before the closing's count
 abbrev pub IsBefore : ℕ → Option ℕ → Type 0
 IsBefore place None = Unit {0}
@@ -89,50 +98,57 @@ abbrev pub At : Type 0 → Type 0
 At T = Me (Option T) (View T)
 
 module _ {T : Type 0} where
-  abbrev pub view : ℕ → ℕ → List ℕ → List ℕ → Option ℕ → Option ℕ → List Draw → List (ℕ × T) → List (ℕ × ℕ) → Option ℕ → List ℕ → List ℕ → View T
-  view passes clients before numbers claim unmarked draws values repeats closing looked taken =
-      record { marker = record {}; passes = passes; clients = clients; before = before; numbers = numbers; claim = claim; unmarked = unmarked; draws = draws; values = values; repeats = repeats; closing = closing; looked = looked; taken = taken }
+  abbrev pub view : ℕ → ℕ → List ℕ → List ℕ → Option ℕ → Option ℕ → List Draw → List (ℕ × T) → List (ℕ × ℕ) → Option ℕ → List (ℕ × ℕ) → List ℕ → ℕ → View T
+  view passes clients before numbers claim unmarked draws values repeats closing looked taken right =
+      record { marker = record {}; passes = passes; clients = clients; before = before; numbers = numbers; claim = claim; unmarked = unmarked; draws = draws; values = values; repeats = repeats; closing = closing; looked = looked; taken = taken; right = right }
 
   abbrev pub joined : View T → View T → View T
-  joined v w = view v.passes v.clients v.before (v.numbers ++ w.numbers) v.claim v.unmarked (merge_draws v.draws w.draws) (v.values ++ w.values) (v.repeats ++ w.repeats) (either_one v.closing w.closing) (v.looked ++ w.looked) (v.taken ++ w.taken)
+  joined v w = view v.passes v.clients v.before (v.numbers ++ w.numbers) v.claim v.unmarked (merge_draws v.draws w.draws) (v.values ++ w.values) (v.repeats ++ w.repeats) (either_one v.closing w.closing) (v.looked ++ w.looked) (v.taken ++ w.taken) (v.right + w.right)
 
   abbrev pub spent : View T
-  spent = view 0 0 [] [] None None [] [] [] None [] []
+  spent = view 0 0 [] [] None None [] [] [] None [] [] 0
 
   -- the first number goes to a new pass
   abbrev pub without_first : View T → View T
-  without_first v = view v.passes v.clients v.before (after_first v.numbers) v.claim v.unmarked v.draws v.values v.repeats v.closing v.looked v.taken
+  without_first v = view v.passes v.clients v.before (after_first v.numbers) v.claim v.unmarked v.draws v.values v.repeats v.closing v.looked v.taken v.right
 
   abbrev pub of_first : View T → View T
-  of_first v = view v.passes v.clients v.before (first_only v.numbers) None None [] [] [] None [] []
+  of_first v = view v.passes v.clients v.before (first_only v.numbers) None None [] [] [] None [] [] 0
+
+  -- the right goes to a closing
+  abbrev pub without_right : View T → View T
+  without_right v = view v.passes v.clients v.before v.numbers v.claim v.unmarked v.draws v.values v.repeats v.closing v.looked v.taken 0
+
+  abbrev pub of_right : View T → View T
+  of_right v = view v.passes v.clients v.before [] None None [] [] [] None [] [] v.right
 
   abbrev pub claimed : View T → ℕ → View T
-  claimed v i = view v.passes v.clients v.before v.numbers (Some i) v.unmarked v.draws v.values v.repeats v.closing v.looked v.taken
+  claimed v i = view v.passes v.clients v.before v.numbers (Some i) v.unmarked v.draws v.values v.repeats v.closing v.looked v.taken v.right
 
   abbrev pub repeated : View T → ℕ → View T
-  repeated v i = view v.passes v.clients v.before v.numbers v.claim v.unmarked v.draws v.values (v.repeats ++ (least v.numbers, i) ∷ []) v.closing v.looked v.taken
+  repeated v i = view v.passes v.clients v.before v.numbers v.claim v.unmarked v.draws v.values (v.repeats ++ (least v.numbers, i) ∷ []) v.closing v.looked v.taken v.right
 
   abbrev pub drew_in : View T → ℕ → ℕ → View T
-  drew_in v i place = view v.passes v.clients v.before v.numbers None (Some i) (v.draws ++ record { place = place; client = i; late = None } ∷ []) v.values v.repeats v.closing v.looked v.taken
+  drew_in v i place = view v.passes v.clients v.before v.numbers None (Some i) (v.draws ++ record { place = place; client = i; late = None } ∷ []) v.values v.repeats v.closing v.looked v.taken v.right
 
   abbrev pub drew_late : View T → ℕ → ℕ → View T
-  drew_late v i seen = view v.passes v.clients v.before v.numbers None None (v.draws ++ record { place = seen - closed; client = i; late = Some seen } ∷ []) v.values v.repeats v.closing v.looked v.taken
+  drew_late v i seen = view v.passes v.clients v.before v.numbers None None (v.draws ++ record { place = seen - closed; client = i; late = Some seen } ∷ []) v.values v.repeats v.closing v.looked v.taken v.right
 
   abbrev pub closed_at : View T → ℕ → View T
-  closed_at v count = view v.passes v.clients v.before v.numbers v.claim v.unmarked v.draws v.values v.repeats (Some count) v.looked v.taken
+  closed_at v count = view v.passes v.clients v.before v.numbers v.claim v.unmarked v.draws v.values v.repeats (Some count) v.looked v.taken 1
 
   abbrev pub marked : View T → ℕ → T → View T
-  marked v i x = view v.passes v.clients v.before v.numbers v.claim None v.draws (v.values ++ (i, x) ∷ []) v.repeats v.closing v.looked v.taken
+  marked v i x = view v.passes v.clients v.before v.numbers v.claim None v.draws (v.values ++ (i, x) ∷ []) v.repeats v.closing v.looked v.taken v.right
 
   abbrev pub took : View T → ℕ → View T
-  took v i = view v.passes v.clients v.before v.numbers v.claim v.unmarked v.draws v.values v.repeats v.closing v.looked (v.taken ++ i ∷ [])
+  took v i = view v.passes v.clients v.before v.numbers v.claim v.unmarked v.draws v.values v.repeats v.closing v.looked (v.taken ++ i ∷ []) v.right
 
-  abbrev pub looked_at : View T → ℕ → View T
-  looked_at v found = view v.passes v.clients v.before v.numbers v.claim v.unmarked v.draws v.values v.repeats v.closing (v.looked ++ found ∷ []) v.taken
+  abbrev pub looked_at : View T → ℕ → ℕ → View T
+  looked_at v i found = view v.passes v.clients v.before v.numbers v.claim v.unmarked v.draws v.values v.repeats v.closing (v.looked ++ (i, found) ∷ []) v.taken v.right
 
   -- after looks that found these
-  abbrev pub looked_all : View T → List ℕ → View T
-  looked_all v found = view v.passes v.clients v.before v.numbers v.claim v.unmarked v.draws v.values v.repeats v.closing (v.looked ++ found) v.taken
+  abbrev pub looked_all : View T → List (ℕ × ℕ) → View T
+  looked_all v found = view v.passes v.clients v.before v.numbers v.claim v.unmarked v.draws v.values v.repeats v.closing (v.looked ++ found) v.taken v.right
 
   abbrev pub claims : ℕ → View T → ℕ
   claims i v = is_client i v.claim
@@ -145,6 +161,10 @@ module _ {T : Type 0} where
 
   abbrev pub puts : ℕ → View T → ℕ
   puts i v = total (λ p. equal p.0 i) v.values
+
+  -- how often it found the client's word marked, to take the value or to count
+  abbrev pub sees : ℕ → View T → ℕ
+  sees i v = times i v.taken + total (is_mark i) v.looked
 
   abbrev pub has_closing : View T → ℕ
   has_closing v = cond (is_some v.closing) 1 0
@@ -162,7 +182,8 @@ module _ {T : Type 0} where
     -- a view marks what it drew, and has all its included draws marked but the one of a call that goes on
     pub marks : (i : ℕ) → puts i v + is_client i v.unmarked ≡ includes i v
     pub asked : (j : ℕ) (p : ℕ × ℕ) → get_elem? v.repeats j ≡ some p → p.1 < clients
-    pub takes : v.closing ≡ None → length v.taken ≡ 0
+    -- who took a value has the right to
+    pub takes : v.right ≡ 0 → length v.taken ≡ 0
     pub idle : length v.numbers ≡ 0 → (length v.draws ≡ 0) × (length v.values ≡ 0) × (length v.repeats ≡ 0) × (v.closing ≡ None) × (v.claim ≡ None)
 
   pub record IsKept (clients passes : ℕ) (before : List ℕ) (s : State (Option T) (View T)) : Type 0 where
@@ -176,10 +197,14 @@ module _ {T : Type 0} where
     pub few : total (λ v. length v.draws + cond (is_some v.claim) 1 0) s.views ≤ total is_set (after_first s.words)
     pub places : (k : ℕ) → total (λ v. total (at_place k) v.draws) s.views ≡ once_below k (total (λ v. length v.draws) s.views)
     pub closings : total has_closing s.views ≡ cond (is_some cut) 1 0
+    -- there is one right to take values, once the gate is closed
+    pub rights : total (λ v. v.right) s.views ≤ cond (is_some cut) 1 0
     pub count : IfSome cut (λ n. n ≤ total (λ v. length v.draws) s.views)
     pub kinds : (i : ℕ) → i < clients → (slice_index s.words (i + 1) ≡ 0) ⊎ (slice_index s.words (i + 1) ≡ 1) ⊎ (slice_index s.words (i + 1) ≡ 3)
     pub claimed : (i : ℕ) → i < clients → is_set (slice_index s.words (i + 1)) ≡ was before i + total (claims i) s.views + total (draws_of i) s.views
     pub marked : (i : ℕ) → i < clients → cond (slice_index s.words (i + 1) == 3) 1 0 ≡ total (puts i) s.views
+    -- a word that was found marked stays marked
+    pub stays : (i : ℕ) → i < clients → 0 < total (sees i) s.views → slice_index s.words (i + 1) ≡ 3
     -- a repeat is of a client that was there or has its claim or its draw
     pub repeated : (j k : ℕ) (v : View T) (p : ℕ × ℕ) → get_elem? s.views j ≡ some v → get_elem? v.repeats k ≡ some p → 0 < slice_index s.words (p.1 + 1)
     -- a client that is free has an empty slot at home, and one that is marked its value, unless it was taken
@@ -201,9 +226,9 @@ module _ {T : Type 0} where
   abbrev pub IsIdle : View T → Type 0
   IsIdle v = (v.claim ≡ None) × (v.unmarked ≡ None)
 
-  -- a load of the control word after a join
+  -- a load of the control word, after a join and by a pass that collects
   abbrev pub Settles : Step (Option T) → At T → ℕ → At T → Type 0
-  Settles st m found n = (n ≡ m) × Ascends m.0.draws × (length m.0.numbers ≡ m.0.passes → IsIdle m.0 → IsSettled m.0)
+  Settles st m found n = (n ≡ m) × Ascends m.0.draws × (length m.0.numbers ≡ m.0.passes → IsIdle m.0 → IsSettled m.0) × (m.0.right ≤ 1) × (m.0.right ≡ 0 → length m.0.taken ≡ 0) × IfSome m.0.closing (λ count. many (λ i. sees i m.0) m.0.clients ≤ count)
 
   -- fetch_or 1 on the client's word: the empty slot goes out with who claimed it
   abbrev pub Claims : Step (Option T) → At T → ℕ → At T → Type 0
@@ -215,7 +240,7 @@ module _ {T : Type 0} where
 
   -- fetch_or 2^32 on the control word
   abbrev pub Closes : Step (Option T) → At T → ℕ → At T → Type 0
-  Closes st m found n = (found < closed → (m.0.closing ≡ None) × (n ≡ (closed_at m.0 found, m.1))) × (closed ≤ found → n ≡ m)
+  Closes st m found n = (found < closed → (m.0.closing ≡ None) × (n ≡ (closed_at m.0 found, m.1)) × (length m.0.taken ≡ 0)) × (closed ≤ found → n ≡ m)
 
   -- fetch_or 2 on the client's word: the slot goes home with the value that was put into it
   abbrev pub Marks : Step (Option T) → At T → ℕ → At T → Type 0
@@ -227,18 +252,19 @@ module _ {T : Type 0} where
 
   -- a load of a client's word, to count
   abbrev pub Looks : Step (Option T) → At T → ℕ → At T → Type 0
-  Looks st m found n = (n ≡ (looked_at m.0 found, m.1)) × KnowsMark m.0 (st.word - 1) found
+  Looks st m found n = (n ≡ (looked_at m.0 (st.word - 1) found, m.1)) × KnowsMark m.0 (st.word - 1) found
 
   -- what the view put for the client is x
   abbrev pub IsOnly : View T → ℕ → T → Type 0
   IsOnly v i x = (k : ℕ) (y : T) → get_elem? v.values k ≡ some (i, y) → y ≡ x
 
-  -- a load of a client's word, by the pass with the closing: where it is marked, the slot comes out with its value
+  -- a load of a client's word, by the pass with the right to take values: where it is marked, the slot comes out with its value
   abbrev pub Takes : Step (Option T) → At T → ℕ → At T → Type 0
   Takes st m found n = let i = st.word - 1 in
       (found ≢ 3 → n ≡ m)
       × (found ≡ 3 → (x : T) × (n ≡ (took m.0 i, (i, Some x) ∷ m.1)) × IsOnly m.0 i x)
       × KnowsMark m.0 i found
+      × (0 < total (is_mark i) m.0.looked → found ≡ 3)
 
   -- a load by which a slot that was emptied goes home
   abbrev pub Returns : Step (Option T) → At T → ℕ → At T → Type 0
@@ -249,8 +275,8 @@ abbrev pub is_three : ℕ → ℕ
 is_three w = cond (w == 3) 1 0
 
 -- how many words were found marked
-abbrev pub marked_count : List ℕ → ℕ
-marked_count found = count_by (λ w. w == 3) found
+abbrev pub marked_count : List (ℕ × ℕ) → ℕ
+marked_count found = count_by (λ p. p.1 == 3) found
 
 -- the marks of a view, client by client
 abbrev pub marks_upto : {T : Type 0} → View T → ℕ → ℕ

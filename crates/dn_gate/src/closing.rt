@@ -3,21 +3,23 @@ ghost use Rattle.std.specs.Prelude.{◌≡◌};
 
 use super::pass::SeatOf;
 use std::marker::Model;
-use std::snapshot::Snapshot;
 
 /// What the one call of `close` that closed the gate was given, and what `collect` takes. Contracts see its gate and its count.
 #[derive(Drop)]
 pub struct Closing<T: Drop> {
     pub(crate) count: u32,
-    pub(crate) by: Snapshot<SeatOf<T>>,
+    // The right to take values: no other seat has it.
+    pub(crate) right: SeatOf<T>,
 }
 
 impl<T: Drop> Model for Closing<T> {
-    ghost use Rattle.dn_gate.specs.Pass.{ClosingView, gate_of};
+    ghost use Rattle.dn_gate.specs.Pass.{ClosingView, gate_of, IsRight};
 
     ghost Value = { ClosingView };
 
-    ghost view = { λ c. record { gate = gate_of c.by.value.table_id c.by.value.me.0; count = c.count } };
+    ghost view = { λ c. record { gate = gate_of c.right.table_id c.right.me.0; count = c.count } };
+
+    ghost invariant = { λ c. IsRight c.right.me };
 }
 
 impl<T: Drop> Closing<T> {

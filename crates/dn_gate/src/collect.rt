@@ -1,7 +1,8 @@
 // Collecting the values.
 ghost use Rattle.std.specs.Prelude.{◌≡◌, ◌≢◌, ◌⊎◌, ℕ, ◌+◌, ◌<◌, ◌≤◌, ◌++◌, [], None, IfOk, IfErr, MatchResult, List, length, map, vec_len, vec_capacity};
+ghost use Rattle.std.specs.List.{range_with_len};
 ghost use Rattle.std.specs.List.Sorted.{IsStrictlyIncreasing};
-ghost use Rattle.dn_gate.specs.Rule.{looked_at, looked_all, marked_count, marks_upto, is_three, puts, times};
+ghost use Rattle.dn_gate.specs.Rule.{looked_at, looked_all, many, marked_count, marks_upto, is_mark, is_three, puts, times, total};
 ghost use Rattle.dn_gate.specs.Pass.{IsReady, IsClosingOf};
 ghost use Rattle.dn_gate.specs.History.{IsHistory};
 ghost use Rattle.dn_gate.specs.Order.{in_order};
@@ -11,7 +12,7 @@ use super::closing::Closing;
 use super::gate::Gate;
 use super::not_yet::NotYet;
 use super::pass::{GatePass, SeatOf};
-use super::rule::{GateRule, Look, Return, Settle, Take, Terms};
+use super::rule::{Both, GateRule, Look, Return, Settle, Take, Terms};
 use super::view::View;
 use atomic_table::Shared;
 use dn_wire::ClientId;
@@ -26,7 +27,7 @@ fn mark_at<T>(shared: &SharedOf<T>, seat: &mut SeatOf<T>, i: usize) -> u32
     requires table { (seat.old.table_id ≡ shared.now.table_id) × (shared.now.table_id.words ≡ shared.now.key.clients + 1) × (i < shared.now.key.clients) × (shared.now.key.clients ≤ 512) }
     requires seat { 0 < length seat.old.me.0.numbers }
     ensures seat { (seat.new.table_id ≡ seat.old.table_id) × (seat.new.id ≡ seat.old.id) }
-    ensures looked { (found : ℕ) × (seat.new.me ≡ (looked_at seat.old.me.0 found, seat.old.me.1)) × (is_three found ≡ result) }
+    ensures looked { (found : ℕ) × (seat.new.me ≡ (looked_at seat.old.me.0 i found, seat.old.me.1)) × (is_three found ≡ result) }
     ensures small { result ≤ 1 }
     ensures whole { length seat.old.me.0.numbers ≡ seat.old.me.0.passes → result ≡ puts i seat.old.me.0 }
 {
@@ -42,7 +43,7 @@ fn count_marked<T>(shared: &SharedOf<T>, seat: &mut SeatOf<T>, clients: usize) -
     requires table { (seat.old.table_id ≡ shared.now.table_id) × (shared.now.table_id.words ≡ shared.now.key.clients + 1) × (clients ≡ shared.now.key.clients) × (clients ≤ 512) }
     requires seat { (0 < length seat.old.me.0.numbers) × (seat.old.me.1 ≡ []) }
     ensures seat { (seat.new.table_id ≡ seat.old.table_id) × (seat.new.id ≡ seat.old.id) }
-    ensures looked { (found : List ℕ) × (seat.new.me ≡ (looked_all seat.old.me.0 found, [])) × (length found ≡ clients) × (marked_count found ≡ result) }
+    ensures looked { (found : List (ℕ × ℕ)) × (seat.new.me ≡ (looked_all seat.old.me.0 found, [])) × (map (λ w. w.0) found ≡ range_with_len 0 clients) × (marked_count found ≡ result) × (result ≤ many (λ i. total (is_mark i) found) clients) }
     // A pass that stands for all finds what it put.
     ensures whole { length seat.old.me.0.numbers ≡ seat.old.me.0.passes → result ≡ marks_upto seat.old.me.0 clients }
 {
@@ -61,7 +62,7 @@ fn take_into<T: Drop>(
     out: &mut Vec<(ClientId, T)>,
 )
     requires table { (seat.old.table_id ≡ shared.now.table_id) × (shared.now.table_id.words ≡ shared.now.key.clients + 1) × (i < shared.now.key.clients) × (shared.now.key.clients ≤ 512) }
-    requires seat { (0 < length seat.old.me.0.numbers) × (seat.old.me.0.closing ≢ None) × (times i seat.old.me.0.taken ≡ 0) × (seat.old.me.1 ≡ []) }
+    requires seat { (0 < length seat.old.me.0.numbers) × (0 < seat.old.me.0.right) × (times i seat.old.me.0.taken ≡ 0) × (seat.old.me.1 ≡ []) }
     requires room { vec_len out.old < vec_capacity out.old }
     ensures seat { (seat.new.table_id ≡ seat.old.table_id) × (seat.new.id ≡ seat.old.id) }
     ensures taken { IsLeftOrTaken seat.old.me.0 i seat.new.me out.old.items out.new.items }
@@ -85,11 +86,14 @@ fn take_all<T: Drop>(
     out: &mut Vec<(ClientId, T)>,
 )
     requires table { (seat.old.table_id ≡ shared.now.table_id) × (shared.now.table_id.words ≡ shared.now.key.clients + 1) × (clients ≡ shared.now.key.clients) × (clients ≤ 512) }
-    requires seat { (0 < length seat.old.me.0.numbers) × (seat.old.me.0.closing ≢ None) × (seat.old.me.0.taken ≡ []) × (seat.old.me.1 ≡ []) }
+    requires seat { (0 < length seat.old.me.0.numbers) × (0 < seat.old.me.0.right) × (seat.old.me.0.taken ≡ []) × (seat.old.me.1 ≡ []) }
     requires room { (out.old.items ≡ []) × (clients ≤ vec_capacity out.old) }
     ensures seat { (seat.new.table_id ≡ seat.old.table_id) × (seat.new.id ≡ seat.old.id) }
     ensures taken { seat.new.me ≡ (took_all seat.old.me.0 (clients_of out.new.items), []) }
     ensures order { IsStrictlyIncreasing (clients_of out.new.items) }
+    // It takes the value of each client whose word was found marked before, and no two values of one client.
+    ensures full { many (λ i. total (is_mark i) seat.old.me.0.looked) clients ≤ length out.new.items }
+    ensures few { length out.new.items ≤ many (λ i. times i (clients_of out.new.items)) clients }
     // A pass that stands for all takes what it put.
     ensures whole { length seat.old.me.0.numbers ≡ seat.old.me.0.passes → out.new.items ≡ map named (in_order clients seat.old.me.0.values) }
 {
@@ -112,10 +116,12 @@ impl<T: Drop> Gate<T> {
         requires closing { IsClosingOf pass.old closing }
         ensures pass { (pass.new.gate ≡ pass.old.gate) × (pass.new.seat ≡ pass.old.seat) × (pass.new.numbers ≡ pass.old.numbers) × IsReady pass.new }
         ensures same { (pass.new.draws ≡ pass.old.draws) × (pass.new.values ≡ pass.old.values) × (pass.new.repeats ≡ pass.old.repeats) × (pass.new.closing ≡ pass.old.closing) }
-        ensures back { IfErr result (λ e. (e.0 ≡ closing) × (pass.new.taken ≡ [])) }
+        ensures back { IfErr result (λ e. (e.0 ≡ closing) × (pass.new.taken ≡ pass.old.taken)) }
         ensures memory { result ≡ Err (closing, NotYet.NoMemory) → pass.new ≡ pass.old }
         ensures pending { (missing : ℕ) → result ≡ Err (closing, NotYet.Pending missing) → LookedAt pass.old pass.new (λ found. (marked_count found + missing ≡ closing.count) × (0 < missing)) }
-        ensures enough { IfOk result (λ _. LookedAt pass.old pass.new (λ found. closing.count ≤ marked_count found)) }
+        ensures enough { IfOk result (λ _. LookedAt pass.old pass.new (λ found. marked_count found ≡ closing.count)) }
+        // None that is included is left out, and no other is there.
+        ensures all { IfOk result (λ v. length v.items ≡ closing.count) }
         ensures order { IfOk result (λ v. (pass.new.taken ≡ clients_of v.items) × IsStrictlyIncreasing (clients_of v.items)) }
 
         // A pass that stands for all gets all values that are included, and knows the whole history.
@@ -132,7 +138,11 @@ impl<T: Drop> Gate<T> {
             let missing = closing.count - marked;
             return Err((closing, NotYet::Pending { missing }));
         }
+        let Closing { count: _, right } = closing;
+        shared.join_seat::<Both>(&mut pass.seat, right);
+        shared.load::<Settle>(&mut pass.seat, 0);
         take_all(shared, &mut pass.seat, self.clients as usize, &mut included);
+        shared.load::<Settle>(&mut pass.seat, 0);
         Ok(included)
     }
 }

@@ -8,7 +8,7 @@ ghost use Rattle.dn_gate.specs.Pass.{IsReady, IsSamePass, included, came_late, I
 use super::already_closed::AlreadyClosed;
 use super::closing::Closing;
 use super::pass::GatePass;
-use super::rule::{Both, Close, GateRule, One, Settle, Terms};
+use super::rule::{Both, Close, GateRule, One, Right, Settle, Terms};
 use super::steps::{CLOSED, Drawn, claim, deposit, draw, mark};
 use super::told::Told;
 use super::view::View;
@@ -126,9 +126,10 @@ impl<T: Drop> Gate<T> {
         if seen >= CLOSED {
             Err(AlreadyClosed { seen })
         } else {
+            let right = self.table.shared.split_seat::<Right>(&mut pass.seat);
             Ok(Closing {
                 count: seen as u32,
-                by: Snapshot::of(&pass.seat),
+                right,
             })
         }
     }

@@ -1,6 +1,6 @@
 // The rule of the gate's words and slots, and the names of its steps.
 ghost use Rattle.std.specs.Prelude.{[]};
-ghost use Rattle.dn_gate.specs.Rule.{IsKept, view, joined, spent, without_first, of_first, Claims, Draws, Closes, Marks, Looks, Takes, Returns, Settles};
+ghost use Rattle.dn_gate.specs.Rule.{IsKept, view, joined, spent, without_first, of_first, without_right, of_right, Claims, Draws, Closes, Marks, Looks, Takes, Returns, Settles};
 
 use super::view::View;
 use atomic_table::{Join, Play, Split, TableRule};
@@ -33,6 +33,14 @@ impl<T> Split<View<T>> for One {
     ghost left = { without_first };
 
     ghost right = { of_first };
+}
+
+pub struct Right;
+
+impl<T> Split<View<T>> for Right {
+    ghost left = { without_right };
+
+    ghost right = { of_right };
 }
 
 pub struct Both;

@@ -1,4 +1,4 @@
-use Rattle.std.proofs.Common.{rules, ◌≡◌, ◌∙◌, [], Some}
+use Rattle.std.proofs.Common.{rules, ◌≡◌, ◌∙◌, Some}
 use Rattle.dn_gate.proofs.tests.one_pass_submits_closes_and_collects.Goals as goal
 
 pub collect-requires-clause-closing : goal.collect-requires-clause-closing
@@ -6,7 +6,4 @@ collect-requires-clause-closing g c =
     let made = rw c.expect-closing.ensures at c.close.ensures.closed in
     let held : c.submit-3.new.pass.closing ≡ Some c.expect-closing.result.count = c.submit-3.ensures.pass.2 ∙ made.2 in
     let kept = rw held at c.close-2.ensures.kept in
-    let gate = c.close-2.ensures.pass.0.0 ∙ c.submit-3.ensures.pass.0.0 ∙ c.close.ensures.pass.0.0 in
-    let taken = c.close-2.ensures.pass.0.4 ∙ c.submit-3.ensures.pass.0.4 ∙ c.close.ensures.pass.0.4 ∙ c.submit-2.ensures.pass.0.4 ∙ c.submit.ensures.pass.0.4 in
-    let first : c.expect-pass.result.taken ≡ [] = search rules in
-    (search rules, kept, taken ∙ first)
+    (search rules, kept)
