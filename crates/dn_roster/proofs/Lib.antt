@@ -1,3 +1,4 @@
 pub mod DealingLemmas
 pub mod RosterLemmas
 pub mod OwnersLemmas
+pub mod OneOwnersList

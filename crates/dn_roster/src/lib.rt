@@ -8,6 +8,7 @@
 
 mod dealing;
 mod group;
+mod laws;
 mod owners;
 mod roster;
 #[cfg(test)]
@@ -15,5 +16,6 @@ mod tests;
 
 pub use dealing::{DealtKey, mask_secret, member_key, pair_seed};
 pub use group::GroupSpec;
+pub use laws::owners_are_one_list;
 pub use owners::slot_owners;
 pub use roster::Roster;

@@ -2,3 +2,4 @@ pub mod ListLemmas
 pub mod DrawLemmas
 pub mod EnvelopeLemmas
 pub mod ChallengeLemmas
+pub mod DealtLemmas

@@ -1,5 +1,5 @@
 -- What a group's dealer deals.
-use Rattle.std.specs.Prelude.{◌≡◌, ℕ, List, map}
+use Rattle.std.specs.Prelude.{◌≡◌, ◌<◌, ℕ, List, map}
 use Rattle.std.specs.List.{flat_map, range_with_len}
 use Rattle.dn_wire.specs.declared.ids.ClientId.{ClientId}
 use Rattle.dn_wire.specs.declared.ids.SignerId.{SignerId}
@@ -9,11 +9,21 @@ use Rattle.dn_lms.specs.Key.{Key}
 use Rattle.dn_lms.specs.Signature.{public_key}
 use Rattle.dn_roster.specs.declared.group.GroupSpec.{GroupSpec}
 use Rattle.dn_roster.specs.Group.{IsWithinLimits}
-use Rattle.dn_roster.specs.Dealing.{pair_seed_of, key_id_of, key_seed_of, mask_secret_of}
+use Rattle.dn_roster.specs.Dealing.{pair_seed_of, key_id_of, key_seed_of, mask_secret_of, number_of}
 use Rattle.dn_roster.specs.Owners.{IsOwners}
 use Rattle.dn_roster.specs.Roster.{RosterView}
 use Rattle.dn_seal.specs.declared.dealt.Kind.{Kind}
 use Rattle.dn_seal.specs.declared.dealt.Kind.TheVariants as kinds
+
+-- how many signers of the same kind a group has
+abbrev pub signers_like : GroupSpec → SignerId → ℕ
+signers_like group (Client i) = group.clients
+signers_like group (Server j) = group.servers
+signers_like group (Slot s) = group.clients
+
+-- a signer of the group
+abbrev pub IsMember : GroupSpec → SignerId → Type 0
+IsMember group who = number_of who < signers_like group who
 
 -- the LMS typecode of a signer's key
 abbrev pub lms_of : GroupSpec → SignerId → ℕ

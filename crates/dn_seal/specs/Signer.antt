@@ -1,5 +1,5 @@
 -- What contracts see of a signer, and what it seals.
-use Rattle.std.specs.Prelude.{ℕ, List, [], ◌∷◌, ◌++◌}
+use Rattle.std.specs.Prelude.{◌≡◌, ◌<◌, ℕ, List, [], ◌∷◌, ◌++◌, ◌⊎◌}
 use Rattle.std.specs.Int.{w32, to_be_bytes}
 use Rattle.dn_wire.specs.declared.ids.SignerId.{SignerId}
 use Rattle.dn_records.specs.declared.statement.Statement.{Statement}
@@ -26,6 +26,10 @@ heading who long = signer_tag who ∷ [] ++ to_be_bytes w32 (number_of who) ++ t
 -- a statement that can stand in an envelope
 abbrev pub CanSign : SignerId → Statement → Type 0
 CanSign who s = IsEnvelope (envelope who s [])
+
+-- nothing was drawn, or one leaf below the count
+abbrev pub IsLeafLost : ℕ → List ℕ → List ℕ → Type 0
+IsLeafLost count old new = (new ≡ old) ⊎ ((q : ℕ) × (q < count) × (new ≡ old ++ q ∷ []))
 
 -- the bytes of the envelope that this key makes at leaf q
 abbrev pub sealed_bytes : RosterView → SignerId → Key → ℕ → Statement → List ℕ

@@ -8,12 +8,16 @@
 
 mod challenge;
 mod dealt;
+mod laws;
 mod said;
 mod signer;
+#[cfg(test)]
+mod tests;
 mod unopened;
 
 pub use challenge::Challenge;
 pub use dealt::{Dealt, deal};
+pub use laws::{members_have_their_keys, pairs_have_their_seeds};
 pub use said::{Said, unseal};
 pub use signer::{SealFault, Signer};
 pub use unopened::Unopened;

@@ -1,4 +1,4 @@
-ghost use Rattle.std.specs.Prelude.{◌≡◌, ℕ, ◌+◌, ◌-◌, ◌<◌, ◌≤◌, ◌++◌, ◌∷◌, [], length, replicate, Some, None, IfOk, IfErr, IfSome, OnOk, Err, MatchResult, Result, ◌^◌};
+ghost use Rattle.std.specs.Prelude.{◌≡◌, ℕ, ◌+◌, ◌-◌, ◌<◌, ◌≤◌, ◌++◌, ◌∷◌, [], length, replicate, Some, None, IsSome, IfOk, IfErr, IfSome, OnOk, Err, MatchResult, Result, ◌^◌};
 ghost use Rattle.std.specs.List.{range_with_len};
 ghost use Rattle.dn_lms.specs.Key.{leaf_count};
 ghost use Rattle.dn_lms.specs.Signature.{public_key};
@@ -6,7 +6,7 @@ ghost use Rattle.dn_leaf.specs.Counts.{IsDistinctBelow, HasEachOnce};
 ghost use Rattle.dn_leaf.specs.Drawer.{fresh, IsSamePass};
 ghost use Rattle.dn_roster.specs.Roster.{key_of};
 ghost use Rattle.dn_seal.specs.Said.{Unseals};
-ghost use Rattle.dn_seal.specs.Signer.{CanSign, heading, sealed_bytes};
+ghost use Rattle.dn_seal.specs.Signer.{CanSign, IsLeafLost, heading, sealed_bytes};
 
 use dn_leaf::{Drawer, Exhausted, LeafPass};
 use dn_lms::{KeyPair, SigKey};
@@ -83,6 +83,9 @@ impl<K: SigKey + Drop> Signer<K> {
         ensures pass { IsSamePass pass.old pass.new × (pass.new.draws ≡ pass.old.draws) }
         ensures count { (self.now.drawer.count ≡ K.count self.now.key) × (result ≤ K.count self.now.key) }
         ensures some { 0 < result → pass.new.seen ≡ None }
+        ensures none { result ≡ 0 → IsSome pass.new.seen }
+        ensures again { IfSome pass.old.seen (λ n. pass.new.seen ≡ Some n) }
+        ensures past { IfSome pass.new.seen (λ n. K.count self.now.key ≤ n) }
 
         // What the pass drew is among the leaves that aren't left, and a pass that stands for all has drawn all of those.
         ensures apart { IsDistinctBelow pass.new.draws (K.count self.now.key - result) }
@@ -137,6 +140,11 @@ impl Signer<KeyPair> {
         ensures open { IfOk result (λ _. (pass.old.seen ≡ None) × (pass.new.seen ≡ None)) }
         ensures exhausted { (n : ℕ) → result ≡ Err (SealFault.Exhausted n) → (leaf_count self.now.key ≤ n) × (pass.new.seen ≡ Some n) × (pass.new.draws ≡ pass.old.draws) }
         ensures again { IfSome pass.old.seen (λ n. (pass.new.seen ≡ Some n) × (pass.new.draws ≡ pass.old.draws)) }
+        ensures bound { (n : ℕ) → result ≡ Err (SealFault.Exhausted n) → n ≤ leaf_count self.now.key + self.now.drawer.passes }
+        ensures last { pass.old.stands ≡ self.now.drawer.passes → pass.old.seen ≡ None → (n : ℕ) → result ≡ Err (SealFault.Exhausted n) → n ≡ length pass.old.draws }
+
+        // Where memory is wanting at most one leaf was drawn.
+        ensures lost { result ≡ Err SealFault.NoMemory → (pass.new.seen ≡ pass.old.seen) × IsLeafLost (leaf_count self.now.key) pass.old.draws pass.new.draws }
     {
         let statement = encode(alloc, s)?;
         let signed = roster.signed_bytes(alloc, who, &statement)?;

@@ -1,0 +1,30 @@
+// Laws of dealt groups, for those who build on them.
+ghost use Rattle.std.specs.Prelude.{◌≡◌, ℕ, ◌+◌, ◌*◌, ◌<◌, ◌≤◌, Some, None, slice_get};
+ghost use Rattle.dn_wire.specs.declared.ids.SignerId.{SignerId};
+ghost use Rattle.dn_hash.specs.Digests.{seed_commitment_of};
+ghost use Rattle.dn_lms.specs.Signature.{public_key};
+ghost use Rattle.dn_roster.specs.Dealing.{mask_secret_of, number_of};
+ghost use Rattle.dn_roster.specs.Roster.{key_of, commitment_of};
+ghost use Rattle.dn_seal.specs.Dealt.{IsMember, signers_like, client, server, slot, key_dealt_to, seed_dealt_to};
+
+use crate::dealt::Dealt;
+
+/// The roster's key of each member of a dealt group is the public key of the key that is dealt to it, and others have none. Each
+/// list of keys has the key that is dealt to a member at its number.
+pub fn members_have_their_keys(dealt: &Dealt)
+    ensures member { (who : SignerId) → IsMember dealt.now.spec who → key_of dealt.now.roster who ≡ Some (public_key (key_dealt_to dealt.now.spec who)) }
+    ensures stranger { (who : SignerId) → signers_like dealt.now.spec who ≤ number_of who → key_of dealt.now.roster who ≡ None }
+    ensures clients { (i : ℕ) → i < dealt.now.spec.clients → slice_get dealt.now.client_keys.items i ≡ Some (key_dealt_to dealt.now.spec (client i)) }
+    ensures servers { (j : ℕ) → j < dealt.now.spec.servers → slice_get dealt.now.server_keys.items j ≡ Some (key_dealt_to dealt.now.spec (server j)) }
+    ensures slots { (s : ℕ) → s < dealt.now.spec.clients → slice_get dealt.now.slot_keys.items s ≡ Some (key_dealt_to dealt.now.spec (slot s)) }
+{}
+
+/// The roster's commitment of each pair of a dealt group is that to the seed that is dealt to the pair, which stands in the list of
+/// seeds at the pair's place.
+pub fn pairs_have_their_seeds(dealt: &Dealt)
+    ensures commitments { (i j : ℕ) → i < dealt.now.spec.clients → j < dealt.now.spec.servers
+        → commitment_of dealt.now.roster i j ≡ Some (seed_commitment_of i j (seed_dealt_to dealt.now.spec i j)) }
+    ensures seeds { (i j : ℕ) → i < dealt.now.spec.clients → j < dealt.now.spec.servers
+        → slice_get dealt.now.seeds.items (i * dealt.now.spec.servers + j) ≡ Some (seed_dealt_to dealt.now.spec i j) }
+    ensures masks { (i : ℕ) → i < dealt.now.spec.clients → slice_get dealt.now.masks.items i ≡ Some (mask_secret_of dealt.now.spec.seed i) }
+{}
