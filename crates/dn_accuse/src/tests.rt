@@ -1,0 +1,167 @@
+ghost use Rattle.std.specs.Prelude.{◌<◌, ◌^◌, length};
+
+use crate::Judging;
+use dn_bits::Bits;
+use dn_cert::{Invalid, Rules, Valid};
+use dn_layout::Layout;
+use dn_lms::SigKey;
+use dn_memory::NoMemory;
+use dn_pads::pad_bit;
+use dn_records::{Body, Digests, Rows, Statement};
+use dn_roster::{GroupSpec, Roster, pair_seed};
+use dn_seal::{Dealt, deal};
+use dn_wire::{Bytes, ClientId, Round, ServerId, SignerId, SlotId, put_bytes, put_u8, put_u32};
+use std::alloc::Global;
+use std::process::Abort;
+use std::test::Fail;
+
+const GROUP: GroupSpec = GroupSpec {
+    clients: 3,
+    servers: 2,
+    ots: 2,
+    client_lms: 5,
+    server_lms: 5,
+    seed: [7; 32],
+};
+
+/// The bytes of pad bits of round 1 and this place: `count` of them, from the front of a byte.
+fn pad_bits(k: u8, count: u8, bits: u8) -> [u8; 18] {
+    [7, 0, 0, 0, 0, 0, 0, 0, 1, 0, 0, 0, k, 0, 0, 0, count, bits]
+}
+
+/// The envelope of a statement's bytes that server 1 signs.
+fn signed_by_server_1(
+    rt: &impl Abort,
+    alloc: Global,
+    dealt: &Dealt,
+    statement: &[u8],
+) -> Result<Vec<u8>, NoMemory>
+    requires { length statement.now < 2 ^ 32 }
+{
+    let who = SignerId::Server(ServerId(1));
+    let signed = dealt.roster.signed_bytes(alloc, who, statement)?;
+    let key = dealt.server_keys.get(1).expect(rt, "two servers");
+    assert_eq!(rt; key.leaves(), 32);
+    let signature = key.sign_at(alloc, 0, &signed)?;
+    let mut envelope = Vec::new(alloc);
+    put_u8(&mut envelope, 2)?;
+    put_u32(&mut envelope, 1)?;
+    put_u32(&mut envelope, statement.len() as u32)?;
+    put_bytes(&mut envelope, statement)?;
+    put_bytes(&mut envelope, &signature)?;
+    Ok(envelope)
+}
+
+/// Whether client 0's rebuttal of this place against a server is good, with the envelope of these pad bits of server 1.
+fn is_good(
+    rt: &impl Abort,
+    alloc: Global,
+    dealt: &Dealt,
+    k: u32,
+    server: u32,
+    seed: [u8; 32],
+    statement: &[u8],
+) -> Result<bool, NoMemory>
+    requires { length statement.now < 2 ^ 32 }
+{
+    let envelope = signed_by_server_1(rt, alloc, dealt, statement)?;
+    let rebuttal = Statement::Rebuttal {
+        r: Round(1),
+        k,
+        server: ServerId(server),
+        seed,
+        envelope: Bytes::of(envelope),
+    };
+    assert_eq!(rt; dealt.roster.clients(), 3);
+    Judging.rebuttal_good(alloc, &dealt.roster, ClientId(0), &rebuttal)
+}
+
+#[test]
+fn rebuttals_are_good_where_the_bits_differ(rt: HostRuntime) -> Result<(), Fail> {
+    let alloc = rt.alloc();
+    let dealt = deal(alloc, &GROUP)?;
+    let seed = pair_seed(&GROUP, ClientId(0), ServerId(1));
+    assert!(rt; pad_bit(&seed, Round(1), 5));
+    assert!(rt; !pad_bit(&seed, Round(1), 7));
+    // The bit of client 0 is the first.
+    assert!(rt; is_good(&rt, alloc, &dealt, 5, 1, seed, &pad_bits(5, 3, 0x60))?);
+    assert!(rt; !is_good(&rt, alloc, &dealt, 5, 1, seed, &pad_bits(5, 3, 0xe0))?);
+    assert!(rt; is_good(&rt, alloc, &dealt, 7, 1, seed, &pad_bits(7, 3, 0x80))?);
+    // Without bits each client is shown a zero.
+    assert!(rt; is_good(&rt, alloc, &dealt, 5, 1, seed, &pad_bits(5, 0, 0)[..17])?);
+    assert!(rt; !is_good(&rt, alloc, &dealt, 7, 1, seed, &pad_bits(7, 0, 0)[..17])?);
+    // Pad bits of another place, another server, and another client's seed.
+    assert!(rt; !is_good(&rt, alloc, &dealt, 5, 1, seed, &pad_bits(6, 3, 0x60))?);
+    assert!(rt; !is_good(&rt, alloc, &dealt, 5, 0, seed, &pad_bits(5, 3, 0x60))?);
+    let others = pair_seed(&GROUP, ClientId(1), ServerId(1));
+    assert!(rt; !is_good(&rt, alloc, &dealt, 5, 1, others, &pad_bits(5, 3, 0x60))?);
+    Ok(())
+}
+
+/// A roster of one client and one server.
+fn small_roster(alloc: Global) -> Result<Roster, NoMemory> {
+    Ok(Roster::make(
+        2,
+        5,
+        5,
+        vec![in alloc; [1; 56]]?,
+        vec![in alloc; [2; 56]]?,
+        vec![in alloc; [3; 56]]?,
+        vec![in alloc; [4; 32]]?,
+    ))
+}
+
+/// The body of round 2 whose output has a 1 at place 100 alone.
+fn body_with_one(alloc: Global) -> Result<Body, NoMemory> {
+    let mut out = Bits::zeros(alloc, 520)?;
+    out.flip(100);
+    Ok(Body {
+        version: 1,
+        r: Round(2),
+        prev: Round(1),
+        listed: Rows::of(Vec::new(alloc)),
+        digests: Digests::of(Vec::new(alloc)),
+        out,
+    })
+}
+
+/// What is said of an accusation against that body, where slot 0 has the places 8 to 519 and the other slots are closed.
+fn judged(
+    alloc: Global,
+    who: SignerId,
+    r: u64,
+    slot: u32,
+    k: u32,
+) -> Result<Result<Valid, Invalid>, Fail> {
+    let roster = small_roster(alloc)?;
+    let body = body_with_one(alloc)?;
+    let layout = Layout::of(vec![in alloc; 64, 0, 0]?).ok_or("a layout")?;
+    let accusation = Statement::Accusation {
+        r: Round(r),
+        slot: SlotId(slot),
+        k,
+    };
+    Ok(Judging.valid(&roster, &layout, &body, who, &accusation))
+}
+
+#[test]
+fn accusations_hold_or_are_refused(rt: HostRuntime) -> Result<(), Fail> {
+    let alloc = rt.alloc();
+    let slot_0 = SignerId::Slot(SlotId(0));
+    let slot_1 = SignerId::Slot(SlotId(1));
+    let client_0 = SignerId::Client(ClientId(0));
+    let valid = Valid {
+        r: Round(2),
+        slot: SlotId(0),
+        k: 100,
+    };
+    assert_eq!(rt; judged(alloc, slot_0, 2, 0, 100)?, Ok(valid));
+    assert_eq!(rt; judged(alloc, slot_1, 2, 0, 100)?, Err(Invalid::Key));
+    assert_eq!(rt; judged(alloc, client_0, 2, 0, 100)?, Err(Invalid::Key));
+    assert_eq!(rt; judged(alloc, slot_0, 1, 0, 100)?, Err(Invalid::Key));
+    assert_eq!(rt; judged(alloc, slot_0, 2, 0, 7)?, Err(Invalid::Place));
+    assert_eq!(rt; judged(alloc, slot_0, 2, 0, 520)?, Err(Invalid::Place));
+    assert_eq!(rt; judged(alloc, slot_1, 2, 1, 100)?, Err(Invalid::Place));
+    assert_eq!(rt; judged(alloc, slot_0, 2, 0, 101)?, Err(Invalid::Zero));
+    Ok(())
+}

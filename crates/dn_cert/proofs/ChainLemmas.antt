@@ -1,0 +1,142 @@
+-- Layouts along a chain, and a chain with one certificate more.
+use Rattle.std.proofs.Common.{◌≡◌, ◌≢◌, ℕ, zero, suc, ◌+◌, ◌<◌, ◌≤◌, List, [], ◌∷◌, length, map, get_or, refl, sym, ap, subst, ◌∙◌, arith, lt-ltb, le-ltb, inl, inr}
+use Rattle.std.specs.Prelude.{All, Contains, insert}
+use Rattle.std.specs.List.Sorted.{IsStrictlyIncreasing}
+use Rattle.std.proofs.lemmas.List.{get_or-map, length-map}
+use Rattle.std.proofs.lemmas.List.Elements.{All-contains, Contains-get_or}
+use Rattle.dn_records.specs.declared.body.Body.{Body}
+use Rattle.dn_wire.specs.declared.ids.Round.{Round}
+use Rattle.dn_layout.specs.Layout.{next_of, bits_of}
+use Rattle.dn_cert.specs.Certificate.{CertificateView, IsCertificate}
+use Rattle.dn_cert.specs.declared.hold_fault.HoldFault.{HoldFault}
+use Rattle.dn_cert.specs.declared.hold_fault.HoldFault.TheVariants as faults
+use Rattle.dn_cert.specs.Chain.{ChainView, bodies, Holds, LayoutAfter, IsLayoutAfter, CanFollow, IsUnheld, with_held, IsChain, Agree}
+use Rattle.dn_cert.specs.Chain.LayoutAfter.{at_first, after_prev}
+use Rattle.dn_cert.proofs.ListLemmas.{one_of_number, map-insert, All-insert, Contains-insert, Contains-insert_itself, Contains-insert_cases, Contains-map, IsStrictlyIncreasing-insert}
+
+pub round_is : (r q : Round) → r.0 ≡ q.0 → r ≡ q
+round_is r q e = λ i. record { 0 = e i }
+
+-- two layouts after a round are one, where the bodies are
+pub layouts_agree : (slots : ℕ) (bs cs : List Body) → All (λ b. b.prev.0 < b.r.0) bs → All (λ b. b.prev.0 < b.r.0) cs
+    → ((b c : Body) → Contains bs b → Contains cs c → b.r ≡ c.r → b ≡ c)
+    → (r : ℕ) (l : List ℕ) → LayoutAfter slots bs r l → (m : List ℕ) → LayoutAfter slots cs r m → l ≡ m
+layouts_agree slots bs cs up down one r l (at_first z is) m (at_first y it) = is ∙ sym it
+layouts_agree slots bs cs up down one r l (at_first z is) m (after_prev c after inside at rest it) =
+    let below = All-contains (λ b. b.prev.0 < b.r.0) cs c down inside in absurd (omega arith)
+layouts_agree slots bs cs up down one r l (after_prev b before inside at rest is) m (at_first y it) =
+    let below = All-contains (λ b. b.prev.0 < b.r.0) bs b up inside in absurd (omega arith)
+layouts_agree slots bs cs up down one r l (after_prev b before inside at rest is) m (after_prev c after within on less it) =
+    let same = one b c inside within (round_is b.r c.r (at ∙ sym on)) in
+    let again = layouts_agree slots bs cs up down one b.prev.0 before rest after (subst (λ x. LayoutAfter slots cs x.prev.0 after) (sym same) less) in
+    is ∙ (λ i. next_of (again i) (same i).out) ∙ sym it
+
+pub chains_agree_lem : (chain other : ChainView) (r : ℕ) (l m : List ℕ) → IsChain chain → IsChain other → chain.slots ≡ other.slots
+    → Agree chain other → IsLayoutAfter chain r l → IsLayoutAfter other r m → l ≡ m
+chains_agree_lem chain other r l m c o slots agree d e =
+    layouts_agree chain.slots (bodies chain) (bodies other) c.before o.before agree r l d m (subst (λ s. LayoutAfter s (bodies other) r m) (sym slots) e)
+
+pub layout_is_one_lem : (chain : ChainView) (r : ℕ) (l m : List ℕ) → IsChain chain → IsLayoutAfter chain r l → IsLayoutAfter chain r m → l ≡ m
+layout_is_one_lem chain r l m c d e =
+    chains_agree_lem chain chain r l m c c refl (λ x y a b k. one_of_number (λ v. v.r.0) (bodies chain) c.ascends x y a b (ap (λ q. q.0) k)) d e
+
+-- what holds of fewer bodies holds of more
+pub layout_stays : (slots : ℕ) (bs more : List Body) → ((b : Body) → Contains bs b → Contains more b) → (r : ℕ) (l : List ℕ) → LayoutAfter slots bs r l → LayoutAfter slots more r l
+layout_stays slots bs more grows r l (at_first z is) = at_first z is
+layout_stays slots bs more grows r l (after_prev b before inside at rest is) =
+    after_prev b before (grows b inside) at (layout_stays slots bs more grows b.prev.0 before rest) is
+
+-- a round with a layout is round 0 or held
+pub has_layout : (chain : ChainView) (r : ℕ) (l : List ℕ) → r ≢ 0 → IsLayoutAfter chain r l → Holds chain r
+has_layout chain r l z (at_first y is) = absurd (z y)
+has_layout chain r l z (after_prev b before inside at rest is) = (b, inside, at)
+
+-- what can follow isn't refused, but for want of memory
+pub follows_so : (chain : ChainView) (b : Body) (f : HoldFault) → IsChain chain → CanFollow chain b → IsUnheld chain b f → f ≡ faults.NoMemory
+follows_so chain b (faults.Known r) c can un = absurd (can.new un.1)
+follows_so chain b (faults.NoPrev prev) c can un = absurd (un.3 (has_layout chain b.prev.0 can.layout un.2 can.after))
+follows_so chain b (faults.Length have need) c can un =
+    let same = layout_is_one_lem chain b.prev.0 un.1.0 can.layout c un.1.1 can.after in
+    absurd (un.3 (un.2 ∙ can.long ∙ sym (ap bits_of same) ∙ sym un.1.2))
+follows_so chain b faults.NoMemory c can un = refl
+
+-- a certificate stands before the first whose round isn't below its own
+pub with_held-insert : (c : CertificateView) (ds : List CertificateView) (at : ℕ) → at ≤ length ds
+    → ((k : ℕ) (d : CertificateView) → k < at → (get_or ds k d).body.r.0 < c.body.r.0)
+    → ((k : ℕ) (d : CertificateView) → at ≤ k → k < length ds → c.body.r.0 ≤ (get_or ds k d).body.r.0)
+    → with_held c ds ≡ insert ds at c
+with_held-insert c [] zero fits below above = refl
+with_held-insert c [] (suc at) fits below above = absurd (omega arith)
+with_held-insert c (d ∷ ds) zero fits below above = rw (le-ltb d.body.r.0 c.body.r.0 (above 0 d (omega arith) (omega arith))) refl
+with_held-insert c (d ∷ ds) (suc at) fits below above =
+    rw (lt-ltb d.body.r.0 c.body.r.0 (below 0 d (omega arith)))
+    (ap (λ l. d ∷ l) (with_held-insert c ds at (omega arith) (λ k e lt. below (suc k) e (omega arith)) (λ k e le lt. above (suc k) e (omega arith) (omega arith))))
+
+-- a chain with one certificate more, in its place
+module _ (chain : ChainView) (c : CertificateView) (at : ℕ) (is : IsChain chain) (cert : IsCertificate c) (can : CanFollow chain c.body) (fits : at ≤ length chain.held)
+    (below : (k : ℕ) (d : CertificateView) → k < at → (get_or chain.held k d).body.r.0 < c.body.r.0)
+    (above : (k : ℕ) (d : CertificateView) → at ≤ k → k < length chain.held → c.body.r.0 ≤ (get_or chain.held k d).body.r.0) where
+  abbrev pub longer : ChainView
+  longer = record { slots = chain.slots; held = insert chain.held at c }
+
+  bodies_longer : bodies longer ≡ insert (bodies chain) at c.body
+  bodies_longer = map-insert (λ (d : CertificateView). d.body) chain.held at c
+
+  pub body_stays : (b : Body) → Contains (bodies chain) b → Contains (bodies longer) b
+  body_stays b a = subst (λ l. Contains l b) (sym bodies_longer) (Contains-insert (bodies chain) at c.body b a)
+
+  pub body_comes : Contains (bodies longer) c.body
+  body_comes = subst (λ l. Contains l c.body) (sym bodies_longer) (Contains-insert_itself (bodies chain) at c.body)
+
+  pub layouts_stay : (r : ℕ) (l : List ℕ) → IsLayoutAfter chain r l → IsLayoutAfter longer r l
+  layouts_stay r l d = layout_stays chain.slots (bodies chain) (bodies longer) body_stays r l d
+
+  -- the layout after the new round
+  pub layout_comes : (before : List ℕ) → IsLayoutAfter chain c.body.prev.0 before → IsLayoutAfter longer c.body.r.0 (next_of before c.body.out)
+  layout_comes before d = after_prev c.body before body_comes refl (layouts_stay c.body.prev.0 before d) refl
+
+  rounds_longer : map (λ (b : Body). b.r.0) (bodies longer) ≡ insert (map (λ (b : Body). b.r.0) (bodies chain)) at c.body.r.0
+  rounds_longer = ap (map (λ (b : Body). b.r.0)) bodies_longer ∙ map-insert (λ (b : Body). b.r.0) (bodies chain) at c.body
+
+  length-rounds : length (map (λ (b : Body). b.r.0) (bodies chain)) ≡ length chain.held
+  length-rounds = length-map (bodies chain) (λ (b : Body). b.r.0) ∙ length-map chain.held (λ (d : CertificateView). d.body)
+
+  round_at : (k : ℕ) → k < length chain.held → get_or (map (λ (b : Body). b.r.0) (bodies chain)) k 0 ≡ (get_or chain.held k c).body.r.0
+  round_at k within =
+      get_or-map (λ (b : Body). b.r.0) (bodies chain) k c.body 0 (rw (length-map chain.held (λ (d : CertificateView). d.body)) within)
+      ∙ ap (λ b. b.r.0) (get_or-map (λ (d : CertificateView). d.body) chain.held k c c.body within)
+
+  -- no round held is the new one
+  apart : (k : ℕ) → k < length chain.held → c.body.r.0 ≢ (get_or chain.held k c).body.r.0
+  apart k within e =
+      let d = get_or chain.held k c in
+      can.new (d.body, Contains-map (λ (d : CertificateView). d.body) chain.held d (Contains-get_or chain.held k c within), sym e)
+
+  rounds_ascend : IsStrictlyIncreasing (map (λ (b : Body). b.r.0) (bodies longer))
+  rounds_ascend =
+      subst IsStrictlyIncreasing (sym rounds_longer)
+      (IsStrictlyIncreasing-insert (map (λ (b : Body). b.r.0) (bodies chain)) at c.body.r.0 is.ascends (omega (arith, length-rounds))
+      (λ k lt. omega (arith, round_at k (omega arith), below k c lt))
+      (λ k le lt. let within : k < length chain.held = omega (arith, length-rounds) in
+      let other = apart k within in omega (arith, round_at k within, above k c le within, other)))
+
+  long_enough : (b : Body) → Contains (bodies longer) b → (lengths : List ℕ) × IsLayoutAfter longer b.prev.0 lengths × (length b.out ≡ bits_of lengths)
+  long_enough b a =
+      elim (Contains-insert_cases (bodies chain) at c.body b (subst (λ l. Contains l b) bodies_longer a)) [
+        | inl old ↦ let l = is.long b old in (l.0, layouts_stay b.prev.0 l.0 l.1, l.2)
+        | inr new ↦ subst (λ (x : Body). (lengths : List ℕ) × IsLayoutAfter longer x.prev.0 lengths × (length x.out ≡ bits_of lengths)) new
+            (can.layout, layouts_stay c.body.prev.0 can.layout can.after, can.long)
+      ]
+
+  pub longer_is_chain : IsChain longer
+  longer_is_chain = record {
+    slots = is.slots;
+    certificates = All-insert chain.held at c IsCertificate is.certificates cert;
+    ascends = rounds_ascend;
+    before = subst (All (λ (b : Body). b.prev.0 < b.r.0)) (sym bodies_longer)
+        (All-insert (bodies chain) at c.body (λ (b : Body). b.prev.0 < b.r.0) is.before cert.signed.within.after);
+    long = long_enough;
+  }
+
+  pub longer_is_with : record chain { held = with_held c chain.held } ≡ longer
+  longer_is_with = ap (λ l. record { slots = chain.slots; held = l }) (with_held-insert c chain.held at fits below above)

@@ -1,0 +1,9 @@
+pub mod Orders
+pub mod Merging
+pub mod TrimLemmas
+pub mod Parts
+pub mod PartLemmas
+pub mod RefusalLemmas
+pub mod ListLemmas
+pub mod ChainLemmas
+pub mod HeldLemmas

@@ -1,0 +1,69 @@
+-- Rounds that hang together by their prev, and the layouts after them.
+use Rattle.std.specs.Prelude.{◌≡◌, ◌≢◌, ◌<◌, ◌≤◌, ◌⊎◌, ℕ, List, [], ◌∷◌, map, length, replicate, All, Contains, nat_lt, if◌then◌else◌}
+use Rattle.std.specs.List.Sorted.{IsStrictlyIncreasing}
+use Rattle.dn_records.specs.declared.body.Body.{Body}
+use Rattle.dn_layout.specs.Layout.{bits_of, next_of}
+use Rattle.dn_cert.specs.Certificate.{CertificateView, IsCertificate}
+use Rattle.dn_cert.specs.declared.hold_fault.HoldFault.{HoldFault}
+use Rattle.dn_cert.specs.declared.hold_fault.HoldFault.TheVariants.{Known, NoPrev, Length, NoMemory}
+
+-- the number of slots, and the certificates held, in order of their rounds
+pub record ChainView : Type 0 where
+  pub slots : ℕ
+  pub held : List CertificateView
+
+abbrev pub bodies : ChainView → List Body
+bodies chain = map (λ c. c.body) chain.held
+
+-- a certificate of round r is held
+abbrev pub Holds : ChainView → ℕ → Type 0
+Holds chain r = (b : Body) × Contains (bodies chain) b × (b.r.0 ≡ r)
+
+-- The layout after a round: after round 0 all slots are closed; after a round that has a body, it is the layout that follows the one
+-- after the body's prev under the body's output.
+pub data LayoutAfter (slots : ℕ) (bodies : List Body) : ℕ → List ℕ → Type 0 where
+  at_first : {r : ℕ} {lengths : List ℕ} → r ≡ 0 → lengths ≡ replicate slots 0 → LayoutAfter slots bodies r lengths
+  after_prev : {r : ℕ} {lengths : List ℕ} (b : Body) (before : List ℕ) → Contains bodies b → b.r.0 ≡ r
+      → LayoutAfter slots bodies b.prev.0 before → lengths ≡ next_of before b.out → LayoutAfter slots bodies r lengths
+
+-- the layout after a round of a chain
+abbrev pub IsLayoutAfter : ChainView → ℕ → List ℕ → Type 0
+IsLayoutAfter chain r lengths = LayoutAfter chain.slots (bodies chain) r lengths
+
+-- The body can follow: its round isn't held, its prev is, or is 0, and its output is as long as the layout after prev.
+pub record CanFollow (chain : ChainView) (b : Body) : Type 0 where
+  pub new : ¬ Holds chain b.r.0
+  pub layout : List ℕ
+  pub after : IsLayoutAfter chain b.prev.0 layout
+  pub long : length b.out ≡ bits_of layout
+
+-- Why a body can't follow: the first of these that is so.
+abbrev pub IsUnheld : ChainView → Body → HoldFault → Type 0
+IsUnheld chain b (Known r) = (r ≡ b.r) × Holds chain b.r.0
+IsUnheld chain b (NoPrev prev) = (prev ≡ b.prev) × (¬ Holds chain b.r.0) × (b.prev.0 ≢ 0) × (¬ Holds chain b.prev.0)
+IsUnheld chain b (Length have need) =
+    (¬ Holds chain b.r.0) × ((layout : List ℕ) × IsLayoutAfter chain b.prev.0 layout × (need ≡ bits_of layout))
+    × (have ≡ length b.out) × (have ≢ need)
+IsUnheld chain b NoMemory = Unit {0}
+
+-- the certificates with one more, in order of their rounds
+abbrev pub with_held : CertificateView → List CertificateView → List CertificateView
+with_held c [] = c ∷ []
+with_held c (d ∷ ds) = if nat_lt d.body.r.0 c.body.r.0 then d ∷ with_held c ds else c ∷ d ∷ ds
+
+-- what a chain keeps: certificates, one a round, each after its prev
+pub record IsChain (chain : ChainView) : Type 0 where
+  pub slots : (1 ≤ chain.slots) × (chain.slots ≤ 512)
+  pub certificates : All IsCertificate chain.held
+  pub ascends : IsStrictlyIncreasing (map (λ b. b.r.0) (bodies chain))
+  pub before : All (λ b. b.prev.0 < b.r.0) (bodies chain)
+  pub long : (b : Body) → Contains (bodies chain) b → (lengths : List ℕ) × IsLayoutAfter chain b.prev.0 lengths × (length b.out ≡ bits_of lengths)
+
+-- the greatest round held below r, or 0 where none is
+pub record IsLatestBelow (chain : ChainView) (r latest : ℕ) : Type 0 where
+  pub held : (latest ≡ 0) ⊎ (Holds chain latest × (latest < r))
+  pub greatest : (q : ℕ) → Holds chain q → q < r → q ≤ latest
+
+-- the bodies of two chains are one where their rounds are
+abbrev pub Agree : ChainView → ChainView → Type 0
+Agree chain other = (b c : Body) → Contains (bodies chain) b → Contains (bodies other) c → b.r ≡ c.r → b ≡ c

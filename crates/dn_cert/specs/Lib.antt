@@ -1,0 +1,5 @@
+pub mod Trim
+pub mod Signed
+pub mod Certificate
+pub mod Chain
+pub mod Evidence

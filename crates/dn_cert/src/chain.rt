@@ -1,0 +1,125 @@
+ghost use Rattle.std.specs.Prelude.{◌≡◌, ◌≢◌, ◌≤◌, [], length, Contains, IfOk, IfErr, OnOk, OnErr, MatchOption, MatchResult, ⊤};
+ghost use Rattle.dn_layout.specs.Layout.{bits_of};
+ghost use Rattle.dn_cert.specs.Chain.{bodies, Holds, IsLayoutAfter, CanFollow, IsUnheld, with_held, IsChain, IsLatestBelow};
+
+use crate::certificate::Certificate;
+use crate::held::{Held, count_below, find};
+use crate::hold_fault::HoldFault;
+use dn_layout::Layout;
+use dn_memory::NoMemory;
+use dn_records::Body;
+use dn_wire::Round;
+use std::alloc::Global;
+use std::marker::Model;
+
+/// Certificates of different rounds, each of which came after that of its prev, and the layout after each round. They stand in order of
+/// their rounds.
+#[derive(Drop)]
+pub struct Chain {
+    first: Layout,
+    held: Vec<Held>,
+}
+
+impl Model for Chain {
+    ghost use Rattle.std.specs.Prelude.{◌≡◌, map, length, replicate, All};
+    ghost use Rattle.dn_cert.specs.Chain.{ChainView, IsChain, IsLayoutAfter};
+
+    ghost Value = { ChainView };
+
+    ghost view = { λ c. record { slots = length c.first; held = map (λ h. h.certificate) c.held.items } };
+
+    ghost invariant = { λ c.
+        let v : ChainView = record { slots = length c.first; held = map (λ h. h.certificate) c.held.items } in
+        IsChain v × (c.first ≡ replicate v.slots 0) × All (λ h. IsLayoutAfter v h.certificate.body.r.0 h.layout) c.held.items };
+}
+
+impl Chain {
+    /// The chain of `n` slots that holds no certificate.
+    pub fn make(alloc: Global, n: u32) -> Result<Chain, NoMemory>
+        requires low { 1 ≤ n }
+        requires high { n ≤ 512 }
+        ensures { IfOk result (λ c. c ≡ record { slots = n; held = [] }) }
+    {
+        Ok(Chain {
+            first: Layout::first(alloc, n)?,
+            held: Vec::new(alloc),
+        })
+    }
+
+    /// The layout on which a body's round ran, if the body can follow.
+    fn layout_before(&self, body: &Body) -> Result<&Layout, HoldFault>
+        ensures follows { IfOk result (λ l. CanFollow self.now body.now × IsLayoutAfter self.now body.now.prev.0 l.now × (length body.now.out ≡ bits_of l.now)) }
+        ensures refused { IfErr result (IsUnheld self.now body.now) }
+    {
+        if find(&self.held, body.r).is_some() {
+            return Err(HoldFault::Known { r: body.r });
+        }
+        let Some(before) = self.layout(body.prev) else {
+            return Err(HoldFault::NoPrev { prev: body.prev });
+        };
+        let (have, need) = (body.out.len(), before.bits());
+        if have != need {
+            return Err(HoldFault::Length { have, need });
+        }
+        Ok(before)
+    }
+
+    /// Holds a certificate, if it can follow. The refusals come in the order of `HoldFault`; after one the chain is as before.
+    pub fn hold(&mut self, alloc: Global, c: Certificate) -> Result<(), HoldFault>
+        ensures held { OnOk result (CanFollow self.old c.body × (self.new ≡ record self.old { held = with_held c self.old.held })) }
+        ensures refused { IfErr result (IsUnheld self.old c.body) }
+        ensures same { OnErr result (self.new ≡ self.old) }
+        // What can follow is held, but for want of memory.
+        ensures follows { CanFollow self.old c.body → MatchResult result (λ _. ⊤) (λ f. f ≡ HoldFault.NoMemory) }
+        ensures chain { IsChain self.new }
+    {
+        let before = match self.layout_before(c.body()) {
+            Ok(before) => before,
+            Err(fault) => return Err(fault),
+        };
+        let layout = before.next(alloc, &c.body().out)?;
+        let at = count_below(&self.held, c.body().r);
+        let held = Held {
+            certificate: c,
+            layout,
+        };
+        self.held.insert(at, held)?;
+        Ok(())
+    }
+
+    /// The greatest round below `r` that is held, and round 0 where none is.
+    pub fn latest_below(&self, r: Round) -> Round
+        ensures latest { IsLatestBelow self.now r.0 result.0 }
+        ensures chain { IsChain self.now }
+    {
+        match count_below(&self.held, r) {
+            0 => Round(0),
+            count => self.held[count - 1].certificate.body().r,
+        }
+    }
+
+    /// The body of round `r`; `None` exactly where none is held.
+    pub fn body(&self, r: Round) -> Option<&Body>
+        ensures body { MatchOption result (¬ Holds self.now r.0) (λ b. Contains (bodies self.now) b.now × (b.now.r ≡ r)) }
+        ensures chain { IsChain self.now }
+    {
+        match find(&self.held, r) {
+            Some(held) => Some(held.certificate.body()),
+            None => None,
+        }
+    }
+
+    /// The layout after round `r`; `None` exactly where that isn't round 0, and isn't held.
+    pub fn layout(&self, r: Round) -> Option<&Layout>
+        ensures layout { MatchOption result ((r.0 ≢ 0) × (¬ Holds self.now r.0)) (λ l. IsLayoutAfter self.now r.0 l.now) }
+        ensures chain { IsChain self.now }
+    {
+        if r == Round(0) {
+            return Some(&self.first);
+        }
+        match find(&self.held, r) {
+            Some(held) => Some(&held.layout),
+            None => None,
+        }
+    }
+}

@@ -1,0 +1,144 @@
+ghost use Rattle.std.specs.Prelude.{◌≡◌, ◌↔◌, ◌<◌, ℕ, List, [], length, slice_index_or, IfOk, IfErr, IsTrue, MatchResult};
+ghost use Rattle.dn_records.specs.Part.{Gives};
+ghost use Rattle.dn_records.specs.Records.{IsPayload, IsBody, payload_bytes, statement_bytes};
+ghost use Rattle.dn_records.specs.declared.body.Body.{Body};
+ghost use Rattle.dn_records.specs.declared.payload.Payload.TheVariants as payloads;
+ghost use Rattle.dn_roster.specs.Roster.{digest_of};
+ghost use Rattle.dn_cert.specs.Certificate.{IsCertificate, IsUnder, IsInGroup, IsSigned, IsRefused, FirstUnsigned, certificate_of};
+
+use crate::certificate::Certificate;
+use crate::fault::CertFault;
+use dn_lms::verify;
+use dn_memory::NoMemory;
+use dn_records::{Body, ByteLists, Payload, RecordFault, Statement, decode_payload, encode};
+use dn_roster::Roster;
+use dn_wire::{Bytes, ServerId, SignerId};
+use std::alloc::Global;
+
+/// The tag of a certificate's payload.
+const TAG: u8 = 3;
+
+/// The body and the signatures of a certificate's payload.
+fn parts(alloc: Global, bytes: &[u8]) -> Result<(Body, ByteLists), RecordFault>
+    ensures found { IfOk result (λ x. IsPayload (payloads.Certificate x.0 x.1)
+        × (bytes.now ≡ payload_bytes (payloads.Certificate x.0 x.1))) }
+    ensures exact { Gives result (certificate_of bytes.now) }
+{
+    let Some(tag) = bytes.first() else {
+        return Err(RecordFault::Cut { at: 0 });
+    };
+    if *tag != TAG {
+        return Err(RecordFault::Kind { byte: *tag });
+    }
+    let payload = match decode_payload(alloc, bytes) {
+        Ok(payload) => payload,
+        Err(fault) => return Err(fault),
+    };
+    match payload {
+        Payload::Certificate { body, signatures } => Ok((body, signatures)),
+        _ => unreachable!(),
+    }
+}
+
+/// Whether a body is one that the roster's group may have.
+fn is_in_group(roster: &Roster, body: &Body) -> bool
+    ensures { IsTrue result ↔ IsInGroup (length roster.now.clients) (length roster.now.servers) body.now }
+{
+    let clients = roster.clients();
+    let servers = roster.servers();
+    body.digests.get().len() == servers as usize
+        && body.prev < body.r
+        && body
+            .listed
+            .get()
+            .iter()
+            .all(|l| l.client.0 < clients && l.server.0 < servers)
+}
+
+/// The public key of server `j`.
+fn server_key(roster: &Roster, j: u32) -> &[u8]
+    requires { j < length roster.now.servers }
+    ensures key { result.now ≡ slice_index_or roster.now.servers j [] }
+    ensures long { length result.now ≡ 56 }
+{
+    let Some(key) = roster.key(SignerId::Server(ServerId(j))) else {
+        unreachable!()
+    };
+    key
+}
+
+/// The public keys of the servers.
+fn server_keys(alloc: Global, roster: &Roster) -> Result<Vec<[u8; 56]>, NoMemory>
+    ensures { IfOk result (λ keys. keys.items ≡ roster.now.servers) }
+{
+    let mut keys = Vec::new(alloc);
+    for j in 0..roster.servers() {
+        let mut key = [0; 56];
+        key.copy_from_slice(server_key(roster, j));
+        keys.push(key)?;
+    }
+    Ok(keys)
+}
+
+/// The bytes of a server's statement that signs the body.
+fn sign_bytes(alloc: Global, body: &Body) -> Result<Vec<u8>, NoMemory>
+    requires { IsBody body.now }
+    ensures { IfOk result (λ v. v.items ≡ statement_bytes (Statement.Sign body.now)) }
+{
+    encode(alloc, &Statement::Sign(body.copy(alloc)?))
+}
+
+/// The first server whose signature of the body doesn't verify.
+fn first_unsigned(
+    alloc: Global,
+    roster: &Roster,
+    body: &Body,
+    signatures: &[Bytes],
+) -> Result<Option<ServerId>, NoMemory>
+    requires body { IsBody body.now }
+    requires each { length signatures.now ≡ length roster.now.servers }
+    ensures { IfOk result (FirstUnsigned roster.now body.now signatures.now) }
+{
+    let statement = sign_bytes(alloc, body)?;
+    for j in 0..roster.servers() {
+        let server = ServerId(j);
+        let signed = roster.signed_bytes(alloc, SignerId::Server(server), &statement)?;
+        if !verify(server_key(roster, j), &signed, signatures[j as usize].get()) {
+            return Ok(Some(server));
+        }
+    }
+    Ok(None)
+}
+
+/// The certificate that the bytes of a payload are: its body, with one signature from each server of the roster, which
+/// verifies on the server's `Sign` of the body. The refusals come in the order of `CertFault`.
+pub fn check(alloc: Global, roster: &Roster, bytes: &[u8]) -> Result<Certificate, CertFault>
+    ensures certificate { IfOk result (λ c. IsCertificate c × IsUnder roster.now c × (c.bytes ≡ bytes.now)) }
+    ensures refused { IfErr result (IsRefused roster.now bytes.now) }
+    // What every server signed is accepted, but for want of memory.
+    ensures signed { (body : Body) → (signatures : List (List ℕ)) → IsSigned (digest_of roster.now) (length roster.now.clients) roster.now.servers body signatures
+        → bytes.now ≡ payload_bytes (payloads.Certificate body signatures)
+        → MatchResult result (λ c. c.body ≡ body) (λ f. f ≡ CertFault.NoMemory) }
+{
+    let (body, signatures) = match parts(alloc, bytes) {
+        Ok(parts) => parts,
+        Err(fault) => return Err(CertFault::from(fault)),
+    };
+    let count = signatures.get().len();
+    let servers = roster.servers();
+    if count != servers as usize {
+        let server = ServerId(count.min(servers as usize) as u32);
+        return Err(CertFault::Missing { server });
+    }
+    if !is_in_group(roster, &body) {
+        return Err(CertFault::Body {
+            server: ServerId(0),
+        });
+    }
+    if let Some(server) = first_unsigned(alloc, roster, &body, signatures.get())? {
+        return Err(CertFault::Signature { server });
+    }
+    let keys = server_keys(alloc, roster)?;
+    let kept = Vec::from_slice(alloc, bytes)?;
+    Ok(Certificate::of(roster.digest(), roster.clients(), keys, body, kept))
+}

@@ -1,0 +1,34 @@
+ghost use Rattle.std.specs.Prelude.{◌≡◌};
+ghost use Rattle.dn_cert.specs.declared.hold_fault.HoldFault.TheVariants.{NoMemory as Refused};
+
+use dn_memory::NoMemory;
+use dn_wire::Round;
+use std::alloc::AllocFailed;
+
+/// Why a chain doesn't hold a certificate: the first of these that is so.
+#[derive(Clone, Copy, Debug, PartialEq, Eq)]
+pub enum HoldFault {
+    /// A certificate of its round is held.
+    Known { r: Round },
+    /// No certificate of its prev is held.
+    NoPrev { prev: Round },
+    /// Its output has `have` bits, and the layout after its prev `need`.
+    Length { have: u32, need: u32 },
+    NoMemory,
+}
+
+impl From<NoMemory> for HoldFault {
+    ghost from_gives = { λ _ e. e ≡ Refused };
+
+    fn from(_: NoMemory) -> Self {
+        HoldFault::NoMemory
+    }
+}
+
+impl<T: Drop> From<AllocFailed<T>> for HoldFault {
+    ghost from_gives = { λ _ e. e ≡ Refused };
+
+    fn from(_: AllocFailed<T>) -> Self {
+        HoldFault::NoMemory
+    }
+}

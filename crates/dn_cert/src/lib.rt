@@ -1,0 +1,40 @@
+//! Who counts in a round, what a certificate is, and how rounds hang together; and the rules by which accusations and rebuttals
+//! are judged.
+//!
+//! `trim` makes one list of the inventories of all servers. `check` reads a payload as a certificate under a roster: a body that
+//! every server signed. A `Chain` holds certificates by their rounds, each after that of its prev, with the layout after each
+//! round. `Rules` says when an accusation holds and when a rebuttal is good. `specs/` has a definition for each of these, and
+//! the laws are public functions.
+#![tactic(auto)]
+
+mod certificate;
+mod chain;
+mod chain_laws;
+mod checking;
+mod entry;
+mod fault;
+mod held;
+mod hold_fault;
+mod making;
+mod rules;
+mod shown;
+mod trim_laws;
+mod trimming;
+
+pub use certificate::Certificate;
+pub use chain::Chain;
+pub use chain_laws::{chains_agree, layout_is_one};
+pub use checking::check;
+pub use entry::entry_verifies;
+pub use fault::CertFault;
+pub use hold_fault::HoldFault;
+pub use making::make_body;
+pub use rules::{Invalid, Rules, Valid};
+pub use shown::shown_bit;
+pub use trim_laws::{servers_part_the_list, trims_are_one, trims_follow_inventories};
+pub use trimming::trim;
+
+#[cfg(test)]
+mod tests;
+#[cfg(test)]
+mod trimming_tests;
