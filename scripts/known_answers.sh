@@ -9,7 +9,7 @@
 set -euo pipefail
 top=$(cd "$(dirname "$0")/.." && pwd)
 folder=${1:-$top/../shared/vectors/known}
-files='pads.txt digests.txt window.txt layout.txt blocks.txt lms.txt bouncy_castle_lms.txt records.txt dealing.txt'
+files='pads.txt digests.txt window.txt layout.txt blocks.txt lms.txt bouncy_castle_lms.txt records.txt dealing.txt check.txt'
 
 if [ ! -d "$folder" ]; then
     echo "known answers: skipped, no folder $folder"

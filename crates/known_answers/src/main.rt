@@ -1,12 +1,13 @@
 //! Computes values of the lower layers and compares them with known ones.
 //!
 //! It reads lines from standard input: a word that names a kind of value, what the value is computed from, and the
-//! value, with one space between two fields. It names each line that differs or can't be read by its number, counted
+//! value, with one space between two fields; a line that deals a group is followed by lines on it. It names each line that differs or can't be read by its number, counted
 //! from 1, and writes last how many lines passed and how many failed. The process ends with 0 where none failed and
 //! with 1 otherwise. No part of the product.
 #![tactic(auto)]
 
 mod block;
+mod certificate;
 mod dealing;
 mod digests;
 mod fields;
@@ -19,12 +20,14 @@ mod roster;
 mod window;
 
 use anyhow::{Context, Result, bail};
+use dn_roster::Roster;
 use std::alloc::Global;
 use std::io::{self, BufRead, BufReader, BufWriter, Write};
 use std::process::ExitCode;
 
-/// Whether a line's value is the one that is computed. An error is a line that can't be read.
-fn passes(alloc: Global, line: &str) -> Result<bool> {
+/// Whether a line's value is the one that is computed. An error is a line that can't be read. `group` is the roster of the
+/// group that a line dealt last.
+fn passes(alloc: Global, group: &mut Option<Roster>, line: &str) -> Result<bool> {
     let fields = fields::split(alloc, line, ' ')?;
     let (word, rest) = fields.split_first().context("an empty line")?;
     match *word {
@@ -41,13 +44,27 @@ fn passes(alloc: Global, line: &str) -> Result<bool> {
         "key" | "sig" | "no" | "lms" => lms::passes(alloc, word, rest),
         "statement" | "envelope" | "payload" => record::passes(alloc, word, rest),
         "dealt" => dealing::passes(alloc, rest),
-        _ => bail!("no such word: {word}"),
+        "roster" => {
+            *group = None;
+            *group = Some(certificate::dealt(alloc, rest)?);
+            Ok(true)
+        }
+        _ => match group {
+            Some(roster) => certificate::passes(alloc, roster, &fields),
+            None => bail!("no such word: {word}"),
+        },
     }
 }
 
 /// Says what is wrong with a line, if anything, and whether it passed.
-fn told<W: Write>(alloc: Global, out: &mut W, number: u64, line: &str) -> io::Result<bool> {
-    match passes(alloc, line) {
+fn told<W: Write>(
+    alloc: Global,
+    out: &mut W,
+    group: &mut Option<Roster>,
+    number: u64,
+    line: &str,
+) -> io::Result<bool> {
+    match passes(alloc, group, line) {
         Ok(true) => return Ok(true),
         Ok(false) => writeln!(out, "line {number} differs")?,
         Err(error) => writeln!(out, "line {number}: {error}")?,
@@ -60,9 +77,10 @@ fn run(rt: &HostRuntime) -> io::Result<bool> {
     let mut out = BufWriter::new(alloc, io::writer(rt))?;
     let mut passed = 0u64;
     let mut failed = 0u64;
+    let mut group = None;
     for line in BufReader::new(alloc, rt.reader())?.lines(alloc) {
         let number = passed.saturating_add(failed).saturating_add(1);
-        if told(alloc, &mut out, number, line?.as_str())? {
+        if told(alloc, &mut out, &mut group, number, line?.as_str())? {
             passed = passed.saturating_add(1);
         } else {
             failed = failed.saturating_add(1);

@@ -28,7 +28,7 @@ fn payload_again(alloc: Global, bytes: &[u8]) -> std::result::Result<Vec<u8>, Re
 }
 
 /// The fault that an answer spells, or none for `ok`.
-fn fault_of(answer: &[&str]) -> Result<Option<RecordFault>> {
+pub fn fault_of(answer: &[&str]) -> Result<Option<RecordFault>> {
     let word = text(answer, 0)?;
     end_at(
         answer,
