@@ -1,11 +1,11 @@
 -- Certificates with their layouts, in order of rounds.
-use Rattle.std.proofs.Common.{◌≡◌, ◌≢◌, ℕ, ◌+◌, ◌-◌, ◌<◌, ◌≤◌, List, [], ◌∷◌, length, map, get_or, refl, sym, ap, subst, ◌∙◌, arith, inl, inr, true, false, Some, None}
-use Rattle.std.specs.Prelude.{Option, IfSome, IfNone, is_some, All, Contains, insert, replicate}
+use Rattle.std.proofs.Common.{◌≡◌, ◌≢◌, ℕ, ◌-◌, ◌<◌, ◌≤◌, List, [], ◌∷◌, length, map, get_or, refl, sym, ap, subst, ◌∙◌, arith, inl, inr, true, false, Some, None}
+use Rattle.std.specs.Prelude.{Option, IfSome, IfNone, is_some, All, Contains, insert}
 use Rattle.std.specs.List.{AllWithin}
 use Rattle.std.specs.List.Sorted.{IsStrictlyIncreasing}
 use Rattle.std.proofs.lemmas.Bool.{cases_lt}
 use Rattle.std.proofs.lemmas.List.{get_or-map, length-map, get_or_default}
-use Rattle.std.proofs.lemmas.List.Elements.{All-contains, All-weaker, Contains-get_or}
+use Rattle.std.proofs.lemmas.List.Elements.{All-contains, All-weaker}
 use Rattle.dn_records.specs.declared.body.Body.{Body}
 use Rattle.dn_layout.specs.Layout.{next_of}
 use Rattle.dn_cert.specs.declared.held.Held.{Held}

@@ -1,8 +1,8 @@
 -- The parts of a certificate's payload, from what reading a payload gives.
-use Rattle.std.proofs.Common.{◌≡◌, ℕ, ◌<◌, List, [], ◌∷◌, length, Result, Ok, Err, refl, sym, ap, subst, ◌∙◌, arith, le-ltb, true, false, eqb, eq-eqb, ne_eqb}
+use Rattle.std.proofs.Common.{◌≡◌, ℕ, ◌<◌, List, [], ◌∷◌, length, Result, Ok, Err, refl, sym, ap, ◌∙◌, arith, le-ltb, ne_eqb}
 use Rattle.std.specs.List.{slice_index}
 use Rattle.dn_wire.specs.Cursor.{start, past}
-use Rattle.dn_records.specs.Part.{◌>>=◌, whole, Fails, Gives}
+use Rattle.dn_records.specs.Part.{◌>>=◌, whole, Fails}
 use Rattle.dn_records.specs.Fields.{read_byte}
 use Rattle.dn_records.specs.Records.{certificate, payload_of, read_tag, read_certificate, payload_bytes, IsPayload}
 use Rattle.dn_records.specs.declared.body.Body.{Body}

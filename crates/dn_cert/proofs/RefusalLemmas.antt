@@ -1,5 +1,5 @@
 -- What every server signed isn't refused.
-use Rattle.std.proofs.Common.{◌≡◌, ℕ, List, length, Ok, Err, refl, sym, ap, subst, ◌∙◌, arith}
+use Rattle.std.proofs.Common.{◌≡◌, ℕ, List, length, Ok, refl, sym, ap, subst, ◌∙◌}
 use Rattle.dn_wire.specs.declared.ids.ServerId.{ServerId}
 use Rattle.dn_records.specs.Records.{payload_bytes}
 use Rattle.dn_records.specs.declared.body.Body.{Body}

@@ -38,7 +38,8 @@ impl Chain {
     pub fn make(alloc: Global, n: u32) -> Result<Chain, NoMemory>
         requires low { 1 ≤ n }
         requires high { n ≤ 512 }
-        ensures { IfOk result (λ c. c ≡ record { slots = n; held = [] }) }
+        ensures none { IfOk result (λ c. c ≡ record { slots = n; held = [] }) }
+        ensures chain { IfOk result IsChain }
     {
         Ok(Chain {
             first: Layout::first(alloc, n)?,

@@ -1,6 +1,5 @@
-use Rattle.std.proofs.Common.{◌≡◌, ◌≢◌, arith, sym, ap, subst, ◌∙◌, length, min, rules}
+use Rattle.std.proofs.Common.{◌≡◌, ◌≢◌, sym, ap, subst, ◌∙◌, length, min, rules}
 use Rattle.dn_cert.specs.Certificate.{IsInGroup, IsRefused, FirstUnsigned}
-use Rattle.dn_cert.specs.declared.fault.CertFault.TheVariants as refusals
 use Rattle.dn_cert.proofs.RefusalLemmas.{refused_for_memory, refused_for_form, same_parts, not_first}
 use Rattle.dn_cert.proofs.checking.check.Goals as goal
 

@@ -1,9 +1,9 @@
-use Rattle.std.proofs.Common.{◌≡◌, List, length, ap, ◌∙◌, sym, subst}
+use Rattle.std.proofs.Common.{◌≡◌, List, length, sym, subst}
 use Rattle.std.specs.Prelude.{All, replicate}
 use Rattle.dn_cert.specs.declared.held.Held.{Held}
-use Rattle.dn_cert.specs.Chain.{IsChain, IsLayoutAfter, IsUnheld}
+use Rattle.dn_cert.specs.Chain.{IsChain, IsLayoutAfter, CanFollow, IsUnheld, with_held}
 use Rattle.dn_cert.proofs.ChainLemmas.{follows_so}
-use Rattle.dn_cert.proofs.HeldLemmas.{chain_of, held_ascend, held_more}
+use Rattle.dn_cert.proofs.HeldLemmas.{chain_of, Keeps, held_ascend, held_more}
 use Rattle.dn_cert.proofs.chain.Chain.hold.Goals as goal
 
 pub returns-in-Err-clause-follows : goal.returns-in-Err-clause-follows
@@ -20,32 +20,25 @@ invariant_of-self c =
     let P : List Held → Type 0 = λ l. IsChain (chain_of n l) × (c.self.inside.first ≡ replicate n 0) × All (λ (h : Held). IsLayoutAfter (chain_of n l) h.certificate.body.r.0 h.layout) l in
     subst P (sym c.in_err-insert.ensures.items) c.self.invariant
 
-pub invariant_of-self-2 : goal.invariant_of-self-2
-invariant_of-self-2 c =
-    let more = held_more (length c.self.inside.first) c.self.inside.held.items c.insert.new.self.items c.deref.result.now c.args.self.now c.args.c c.body.result.now c.body-2.result.now c.body-3.result.now c.in-Ok.before.now c.in_ok-layout.layout c.count_below-at.result
+-- what is held once the certificate is in its place
+one_more : (c : goal.In_ok-insert) → Keeps (length c.self.inside.first) c.insert.new.self.items × CanFollow c.args.self.now c.args.c.body
+    × (chain_of (length c.self.inside.first) c.insert.new.self.items ≡ record c.args.self.now { held = with_held c.args.c c.args.self.now.held })
+one_more c =
+    held_more (length c.self.inside.first) c.self.inside.held.items c.insert.new.self.items c.deref.result.now c.args.self.now c.args.c c.body.result.now c.body-2.result.now c.body-3.result.now c.in-Ok.before.now c.in_ok-layout.layout c.count_below-at.result
     c.self.view_is (c.self.invariant.0, c.self.invariant.2) c.body.ensures.certificate
     c.body.ensures.value c.in-Ok.ensures.follows.0 c.in-Ok.ensures.follows.1
     c.body-2.ensures.value c.in_ok-layout.ensures
     c.deref.ensures.value c.body-3.ensures.value c.count_below-at.ensures.bound c.count_below-at.ensures.below c.count_below-at.ensures.above
-    c.in_ok-insert.ensures.items in
-    (more.0.0, c.self.invariant.1, more.0.1)
+    c.in_ok-insert.ensures.items
+
+pub invariant_of-self-2 : goal.invariant_of-self-2
+invariant_of-self-2 c =
+    let more = one_more c in (more.0.0, c.self.invariant.1, more.0.1)
 
 pub returns-clause-held : goal.returns-clause-held
 returns-clause-held c =
-    let more = held_more (length c.self.inside.first) c.self.inside.held.items c.insert.new.self.items c.deref.result.now c.args.self.now c.args.c c.body.result.now c.body-2.result.now c.body-3.result.now c.in-Ok.before.now c.in_ok-layout.layout c.count_below-at.result
-    c.self.view_is (c.self.invariant.0, c.self.invariant.2) c.body.ensures.certificate
-    c.body.ensures.value c.in-Ok.ensures.follows.0 c.in-Ok.ensures.follows.1
-    c.body-2.ensures.value c.in_ok-layout.ensures
-    c.deref.ensures.value c.body-3.ensures.value c.count_below-at.ensures.bound c.count_below-at.ensures.below c.count_below-at.ensures.above
-    c.in_ok-insert.ensures.items in
-    (more.1, more.2)
+    let more = one_more c in (more.1, more.2)
 
 pub returns-clause-chain : goal.returns-clause-chain
 returns-clause-chain c =
-    let more = held_more (length c.self.inside.first) c.self.inside.held.items c.insert.new.self.items c.deref.result.now c.args.self.now c.args.c c.body.result.now c.body-2.result.now c.body-3.result.now c.in-Ok.before.now c.in_ok-layout.layout c.count_below-at.result
-    c.self.view_is (c.self.invariant.0, c.self.invariant.2) c.body.ensures.certificate
-    c.body.ensures.value c.in-Ok.ensures.follows.0 c.in-Ok.ensures.follows.1
-    c.body-2.ensures.value c.in_ok-layout.ensures
-    c.deref.ensures.value c.body-3.ensures.value c.count_below-at.ensures.bound c.count_below-at.ensures.below c.count_below-at.ensures.above
-    c.in_ok-insert.ensures.items in
-    more.0.0
+    (one_more c).0.0

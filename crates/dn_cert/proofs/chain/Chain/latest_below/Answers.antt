@@ -1,4 +1,4 @@
-use Rattle.std.proofs.Common.{◌≡◌, ◌<◌, ◌-◌, length, get_or, arith, ap, sym, subst}
+use Rattle.std.proofs.Common.{◌≡◌, ◌<◌, ◌-◌, length, get_or, arith, sym, subst}
 use Rattle.dn_cert.specs.Chain.{IsLatestBelow}
 use Rattle.dn_cert.proofs.HeldLemmas.{held_ascend, none_below_seen, last_below_seen}
 use Rattle.dn_cert.proofs.chain.Chain.latest_below.Goals as goal

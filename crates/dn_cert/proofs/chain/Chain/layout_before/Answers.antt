@@ -1,4 +1,4 @@
-use Rattle.std.proofs.Common.{◌≡◌, ◌≢◌, length, arith, ap, ◌∙◌, sym, refl, subst}
+use Rattle.std.proofs.Common.{◌≡◌, length, ap, ◌∙◌, sym, refl}
 use Rattle.dn_layout.specs.Layout.{bits_of}
 use Rattle.dn_cert.proofs.HeldLemmas.{held_ascend, body_seen, none_seen, found_one, found_none}
 use Rattle.dn_cert.proofs.chain.Chain.layout_before.Goals as goal
