@@ -1,7 +1,7 @@
 -- Two lists in order of clients, joined into one.
-use Rattle.std.proofs.Common.{◌≡◌, ℕ, ◌+◌, ◌<◌, ◌≤◌, ◌⊎◌, inl, inr, cond, eqb, ltb, List, [], ◌∷◌, ◌++◌, map, length, drop, refl, ap, sym, subst, ◌∙◌, arith}
+use Rattle.std.proofs.Common.{◌≡◌, ℕ, ◌+◌, ◌<◌, ◌≤◌, ◌⊎◌, inl, inr, cond, eqb, ltb, List, [], ◌∷◌, ◌++◌, map, length, drop, ap, sym, subst, ◌∙◌, arith}
 use Rattle.std.specs.List.{Contains}
-use Rattle.std.proofs.lemmas.Bool.{cond_both, lt-ltb, le-ltb, ltb-true, ltb-false, eqb-true, eqb-false}
+use Rattle.std.proofs.lemmas.Bool.{cond_both, ltb-true, ltb-false, eqb-true, eqb-false}
 use Rattle.std.proofs.lemmas.List.{append-nil, drop_all}
 use Rattle.dn_wire.specs.declared.ids.ClientId.{ClientId}
 use Rattle.dn_records.specs.Lists.{AscendFrom}
@@ -27,28 +27,14 @@ abbrev pub merged : ℕ → List Listed → List Entry → List Listed
 merged j [] es = map (row_of j) es
 merged j (l ∷ ls) es = merged_at j l (λ rest. merged j ls rest) es
 
--- ---- one step
-
--- the client comes before the first row
-abbrev pub ComesFirst : ClientId → List Listed → Type 0
-ComesFirst i [] = Unit {0}
-ComesFirst i (l ∷ ls) = i.0 < l.client.0
-
-pub merged-entry : (j : ℕ) (ls : List Listed) (e : Entry) (es : List Entry) → ComesFirst e.client ls → merged j ls (e ∷ es) ≡ row_of j e ∷ merged j ls es
-merged-entry j [] e es h = refl
-merged-entry j (l ∷ ls) e es h = rw (lt-ltb e.client.0 l.client.0 h) refl
-
 -- the client comes before the first entry, or is its client
-abbrev pub IsAhead : ClientId → List Entry → Type 0
+abbrev IsAhead : ClientId → List Entry → Type 0
 IsAhead i [] = Unit {0}
 IsAhead i (e ∷ es) = i.0 ≤ e.client.0
 
-pub merged-row : (j : ℕ) (l : Listed) (ls : List Listed) (es : List Entry) → IsAhead l.client es → merged j (l ∷ ls) es ≡ l ∷ merged j ls (skipped l.client es)
-merged-row j l ls [] h = refl
-merged-row j l ls (e ∷ es) h = rw (le-ltb e.client.0 l.client.0 h) refl
-
 -- ---- order
 
+-- the clients of rows, and of entries
 abbrev clients : List Listed → List ClientId
 clients ls = map (λ l. l.client) ls
 
@@ -160,11 +146,11 @@ module _ (j : ℕ) (l : Listed) (ls : List Listed) (rest : List Entry → List L
       h
 
 -- a row of it is a row of before, or that of an entry whose client had none
-pub merged-only : (j : ℕ) (ls : List Listed) (floor flow : ℕ) (es : List Entry) (x : Listed) → AscendFrom floor (clients ls) → AscendFrom flow (entered es)
+pub merged-only : (j : ℕ) (ls : List Listed) (floor low : ℕ) (es : List Entry) (x : Listed) → AscendFrom floor (clients ls) → AscendFrom low (entered es)
     → Contains (merged j ls es) x → Contains ls x ⊎ IsRow j ls es x
-merged-only j [] floor flow es x ul ue h = inr (rows_only j es x h)
-merged-only j (l ∷ ls) floor flow es x ul ue h =
-    merged_at-only j l ls (λ rest. merged j ls rest) (λ f rest y up has. merged-only j ls (l.client.0 + 1) f rest y ul.1 up has) ul.1 flow es x ue h
+merged-only j [] floor low es x ul ue h = inr (rows_only j es x h)
+merged-only j (l ∷ ls) floor low es x ul ue h =
+    merged_at-only j l ls (λ rest. merged j ls rest) (λ f rest y up has. merged-only j ls (l.client.0 + 1) f rest y ul.1 up has) ul.1 low es x ue h
 
 module _ (j : ℕ) (l : Listed) (ls : List Listed) (rest : List Entry → List Listed) where
   merged_at-keeps : ((es : List Entry) (x : Listed) → Contains ls x → Contains (rest es) x)

@@ -32,7 +32,8 @@ pub record IsInGroup (clients servers : ℕ) (body : Body) : Type 0 where
 abbrev pub IsSignedAt : List ℕ → List (List ℕ) → Body → List (List ℕ) → ℕ → Type 0
 IsSignedAt digest keys body signatures j = SignsBody digest (slice_index_or keys j []) j body (slice_index_or signatures j [])
 
--- the body and signatures are spelled by these bytes, and each server of the group signed
+-- A body and signatures that a payload can carry, in the group with this digest, so many clients and these keys of its servers: the body is
+-- one of the group's, and each server signed it.
 pub record IsSigned (digest : List ℕ) (clients : ℕ) (keys : List (List ℕ)) (body : Body) (signatures : List (List ℕ)) : Type 0 where
   pub fits : IsPayload (payloads.Certificate body signatures)
   pub each : length signatures ≡ length keys
