@@ -120,7 +120,7 @@ impl<T: Drop> Gate<T> {
         ensures memory { result ≡ Err (closing, NotYet.NoMemory) → pass.new ≡ pass.old }
         ensures pending { (missing : ℕ) → result ≡ Err (closing, NotYet.Pending missing) → LookedAt pass.old pass.new (λ found. (marked_count found + missing ≡ closing.count) × (0 < missing)) }
         ensures enough { IfOk result (λ _. LookedAt pass.old pass.new (λ found. marked_count found ≡ closing.count)) }
-        // None that is included is left out, and no other is there.
+        // There are as many values as draws before the close, whichever pass collects.
         ensures all { IfOk result (λ v. length v.items ≡ closing.count) }
         ensures order { IfOk result (λ v. (pass.new.taken ≡ clients_of v.items) × IsStrictlyIncreasing (clients_of v.items)) }
 
