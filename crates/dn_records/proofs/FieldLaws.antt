@@ -11,7 +11,7 @@ use Rattle.dn_wire.specs.Fields.{byte_at, number_at, bytes_at, limited_at}
 use Rattle.dn_wire.specs.declared.reader.FieldFault.TheVariants as fields
 use Rattle.dn_records.specs.declared.fault.RecordFault.TheVariants.{Shape}
 use Rattle.dn_records.specs.Part.{Read, Part, field}
-use Rattle.dn_records.specs.Fields.{spell_number, read_byte, read_number, read_limited, read_bytes, read_few, byte, short, word, long, up_to, few, exactly, sized}
+use Rattle.dn_records.specs.Fields.{spell_number, read_byte, read_number, read_limited, read_bytes, read_few, read_flag, byte, short, word, long, up_to, few, flag, exactly, sized}
 use Rattle.dn_records.proofs.Laws.{IsBytes, IsBytes-drop, IsBytes-take, bind_ok, not_refused, field_ok, Took, Took-then, Finds, Knows, IsExact}
 
 -- a test that did not fail, and what went on
@@ -166,6 +166,27 @@ few_knows n small x at rest fits = rw (byte_knows x at rest (omega arith), not_z
 
 pub few_exact : (n : ℕ) → n < 256 → IsExact (few n)
 few_exact n small = record { finds = few_finds n; knows = few_knows n small }
+
+-- ---- a byte for yes or no
+
+yes_or_no : (b : ℕ) → b ≤ 1 → cond (eqb b 1) 1 0 ≡ b
+yes_or_no b h = grind (arith, nat_tests)
+
+flag_finds : Finds read_flag (λ yes. cond yes 1 0 ∷ []) (λ yes. Unit {0})
+unfolding read_flag
+flag_finds c x d h e =
+    let a = bind_ok (read_byte c) (λ b. cond (ltb 1 b.0) (Err (Shape c.at)) (Ok (eqb b.0 1, b.1))) (x, d) e in
+    let g = not_refused (ltb 1 a.0.0) (Shape c.at) (eqb a.0.0 1, a.0.1) (x, d) a.2 in
+    subst (λ (y : Bool × Cursor). Took c (cond y.0 1 0 ∷ []) y.1 × Unit {0}) g.1
+    (subst (λ (n : ℕ). Took c (n ∷ []) a.0.1) (sym (yes_or_no a.0.0 (ltb-false _ _ g.0))) (byte_finds c a.0.0 a.0.1 h a.1).0, tt)
+
+flag_knows : Knows read_flag (λ yes. cond yes 1 0 ∷ []) (λ yes. Unit {0})
+unfolding read_flag
+flag_knows true at rest fits = rw (byte_knows 1 at rest (omega arith)) refl
+flag_knows false at rest fits = rw (byte_knows 0 at rest (omega arith)) refl
+
+pub flag_exact : IsExact flag
+flag_exact = record { finds = flag_finds; knows = flag_knows }
 
 -- ---- bytes
 

@@ -7,7 +7,7 @@ use Rattle.dn_wire.specs.Cursor.{Cursor}
 use Rattle.dn_wire.specs.declared.reader.FieldFault.{FieldFault}
 use Rattle.dn_records.specs.declared.fault.RecordFault.{RecordFault}
 pub use Rattle.dn_records.specs.Exact.{IsBytes, Took, before, behind, Finds, Knows, IsExact}
-use Rattle.dn_records.specs.Part.{◌>>=◌, Part, field, ◌⋈◌, seen}
+use Rattle.dn_records.specs.Part.{◌>>=◌, Part, field, ◌⋈◌, led_by, seen}
 
 pub IsBytes-drop : (n : ℕ) (bytes : List ℕ) → IsBytes bytes → IsBytes (drop n bytes)
 IsBytes-drop n bytes h i = rw get_or-drop (h (n + i))
@@ -73,6 +73,22 @@ both {A} {B} p q ep eq = record {
       let one = ep.knows x.0 at (q.spell x.1 ++ rest) fits.0 in
       let two = eq.knows x.1 (at + length (p.spell x.0)) rest fits.1 in
       rw (append_assoc (p.spell x.0) (q.spell x.1) rest, one, two, length-append (p.spell x.0) (q.spell x.1)) (ap (λ (k : ℕ). Ok (x, record { at = k; rest = rest })) (omega arith));
+}
+
+pub led : {A B : Type 0} (p : Part A) (q : A → Part B) → IsExact p → ((a : A) → IsExact (q a)) → IsExact (led_by p q)
+led {A} {B} p q ep eq = record {
+  finds = λ c x d h e.
+      let a = bind_ok (p.read c) (λ x. (q x.0).read x.1 >>= λ y. Ok ((x.0, y.0), y.1)) (x, d) e in
+      let b = bind_ok ((q a.0.0).read a.0.1) (λ y. Ok ((a.0.0, y.0), y.1)) (x, d) a.2 in
+      let first = ep.finds c a.0.0 a.0.1 h a.1 in
+      let second = (eq a.0.0).finds a.0.1 b.0.0 b.0.1 first.0.bytes b.1 in
+      let it : (A × B) × Cursor = ((a.0.0, b.0.0), b.0.1) in
+      subst (λ (y : (A × B) × Cursor). Took c (p.spell y.0.0 ++ (q y.0.0).spell y.0.1) y.1 × (p.Fits y.0.0 × (q y.0.0).Fits y.0.1)) (ok_is it (x, d) b.2)
+      (Took-then c (p.spell a.0.0) a.0.1 ((q a.0.0).spell b.0.0) b.0.1 first.0 second.0, (first.1, second.1));
+  knows = λ x at rest fits.
+      let one = ep.knows x.0 at ((q x.0).spell x.1 ++ rest) fits.0 in
+      let two = (eq x.0).knows x.1 (at + length (p.spell x.0)) rest fits.1 in
+      rw (append_assoc (p.spell x.0) ((q x.0).spell x.1) rest, one, two, length-append (p.spell x.0) ((q x.0).spell x.1)) (ap (λ (k : ℕ). Ok (x, record { at = k; rest = rest })) (omega arith));
 }
 
 pub like : {A B : Type 0} (to : A → B) (back : B → A) (p : Part A) → ((a : A) → p.Fits a → back (to a) ≡ a) → ((b : B) → to (back b) ≡ b) → IsExact p → IsExact (seen to back p)

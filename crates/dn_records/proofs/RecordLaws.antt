@@ -1,7 +1,7 @@
 -- The law of each record.
 use Rattle.std.proofs.Common.{◌≡◌, ℕ, zero, suc, ◌+◌, ◌<◌, ◌≤◌, Bool, true, false, cond, eqb, List, [], ◌∷◌, ◌++◌, length, Result, Ok, Err, refl, sym, ap, subst, ◌∙◌, arith, ◌⊎◌, inl, inr}
-use Rattle.std.specs.Prelude.{IfOk}
-use Rattle.std.proofs.lemmas.Bool.{eqb-true}
+use Rattle.std.specs.Prelude.{IfOk, IsTrue}
+use Rattle.std.proofs.lemmas.Bool.{eqb-true, eq-eqb}
 use Rattle.std.proofs.lemmas.List.{append-nil, nil_from_length}
 use Rattle.dn_wire.specs.Cursor.{Cursor, start}
 use Rattle.dn_wire.specs.declared.ids.SignerId.{SignerId}
@@ -16,12 +16,12 @@ use Rattle.dn_records.specs.declared.payload.Payload.{Payload}
 use Rattle.dn_records.specs.declared.payload.Payload.TheVariants as payloads
 use Rattle.dn_records.specs.declared.fault.RecordFault.{RecordFault}
 use Rattle.dn_records.specs.declared.fault.RecordFault.TheVariants as faults
-use Rattle.dn_records.specs.Part.{Read, Part, made, ◌⋈◌, whole, Gives}
-use Rattle.dn_records.specs.Fields.{read_byte, short, word, long, up_to, few, exactly, sized, bits, round, client, server, slot, digest}
+use Rattle.dn_records.specs.Part.{Read, Part, made, ◌⋈◌, led_by, whole, Gives}
+use Rattle.dn_records.specs.Fields.{read_byte, read_flag, short, word, long, up_to, few, flag, exactly, sized, bits, round, client, server, slot, digest}
 use Rattle.dn_records.specs.Lists.{rows, several, inside}
-use Rattle.dn_records.specs.Records.{entry, inventory, listed, shown_cipher, body, word_told, told_byte, told, submission, receipt, commit, reveal, pad_bits, shown, accusation, rebuttal, concede, read_submission, read_receipt, read_inventory, read_commit, read_reveal, read_sign, read_pad_bits, read_shown, read_accusation, read_rebuttal, read_concede, read_kind, statement_bytes, IsStatement, read_statement, statement, statement_of, body_bytes, IsBody, body_of, signer_of, signer_numbers, signer, signed, envelope_bytes, IsEnvelope, envelope_of, certificate, challenge, payload_bytes, IsPayload, read_tag, read_cipher, read_certificate, read_challenge, payload_of}
-use Rattle.dn_records.proofs.Laws.{IsBytes, bind_ok, passed, ok_is, Took, Took-then, before, behind, IsExact, both, like}
-use Rattle.dn_records.proofs.FieldLaws.{byte_exact, short_exact, word_exact, long_exact, up_to_exact, few_exact, exactly_exact, sized_exact}
+use Rattle.dn_records.specs.Records.{entry, inventory, listed, shown_cipher, spell_thin, read_thin, thin_in, body_fields, body, word_told, told_byte, told, submission, receipt, commit, reveal, pad_bits, shown, accusation, rebuttal, concede, read_submission, read_receipt, read_inventory, read_commit, read_reveal, read_sign, read_pad_bits, read_shown, read_accusation, read_rebuttal, read_concede, read_kind, statement_bytes, IsStatement, read_statement, statement, statement_of, body_bytes, IsBody, body_of, signer_of, signer_numbers, signer, signed, envelope_bytes, IsEnvelope, envelope_of, certificate, challenge, payload_bytes, IsPayload, read_tag, read_cipher, read_certificate, read_challenge, payload_of}
+use Rattle.dn_records.proofs.Laws.{IsBytes, bind_ok, passed, ok_is, Took, Took-then, Took-nothing, before, behind, IsExact, both, led, like}
+use Rattle.dn_records.proofs.FieldLaws.{byte_exact, short_exact, word_exact, long_exact, up_to_exact, few_exact, flag_exact, exactly_exact, sized_exact}
 use Rattle.dn_records.proofs.BitLaws.{bits_exact}
 use Rattle.dn_records.proofs.ListLaws.{several_exact, IsRow, rows_exact, inside_exact}
 
@@ -66,17 +66,41 @@ ciphers_exact = rows_exact shown_cipher cipher_row client_exact bits_exact
 digests_exact : IsExact (several (up_to 16) digest)
 digests_exact = several_exact (up_to 16) digest (up_to_exact 16 (omega arith)) digest_exact
 
+-- ---- bodies
+
+thin_found : (b : Bool) (version : ℕ) → (b ≡ true → version ≡ 2) → (c : Cursor) (x : Bool) (d : Cursor) → IsBytes c.rest
+    → cond b (read_flag c) (Ok (false, c)) ≡ Ok (x, d) → Took c (cond b (flag.spell x) []) d × (IsTrue x → version ≡ 2)
+thin_found true version is c x d h e = ((flag_exact.finds c x d h e).0, λ _. is refl)
+thin_found false version is c x d h e =
+    subst (λ (y : Bool × Cursor). Took c [] y.1 × (IsTrue y.0 → version ≡ 2)) (ok_is (false, c) (x, d) e) (Took-nothing c h, λ t. absurd cc)
+
+thin_known : (b : Bool) (version : ℕ) → (version ≡ 2 → b ≡ true) → (x : Bool) (at : ℕ) (rest : List ℕ) → (IsTrue x → version ≡ 2)
+    → cond b (read_flag (before at (cond b (flag.spell x) []) rest)) (Ok (false, before at (cond b (flag.spell x) []) rest)) ≡ Ok (x, behind at (cond b (flag.spell x) []) rest)
+thin_known true version is x at rest fits = flag_exact.knows x at rest tt
+thin_known false version is true at rest fits = let k = is (fits refl) in absurd cc
+thin_known false version is false at rest fits = ap (λ (k : ℕ). Ok (false, record { at = k; rest = rest })) (omega arith)
+
+thin_exact : (version : ℕ) → IsExact (thin_in version)
+unfolding spell_thin read_thin
+thin_exact version = record {
+  finds = thin_found (eqb version 2) version (eqb-true version 2);
+  knows = thin_known (eqb version 2) version (eq-eqb version 2);
+}
+
+fields_exact : (version : ℕ) → IsExact (body_fields version)
+fields_exact version =
+    both round (round ⋈ thin_in version ⋈ rows listed ⋈ several (up_to 16) digest ⋈ bits) round_exact
+    (both round (thin_in version ⋈ rows listed ⋈ several (up_to 16) digest ⋈ bits) round_exact
+    (both (thin_in version) (rows listed ⋈ several (up_to 16) digest ⋈ bits) (thin_exact version)
+    (both (rows listed) (several (up_to 16) digest ⋈ bits) listed_exact
+    (both (several (up_to 16) digest) bits digests_exact bits_exact))))
+
 pub body_exact : IsExact body
 body_exact =
     like
-    (λ x. record { version = x.0; r = x.1.0; prev = x.1.1.0; listed = x.1.1.1.0; digests = x.1.1.1.1.0; out = x.1.1.1.1.1 })
-    (λ b. (b.version, (b.r, (b.prev, (b.listed, (b.digests, b.out))))))
-    (few 1 ⋈ round ⋈ round ⋈ rows listed ⋈ several (up_to 16) digest ⋈ bits) (λ a h. refl) (λ b. refl)
-    (both (few 1) (round ⋈ round ⋈ rows listed ⋈ several (up_to 16) digest ⋈ bits) (few_exact 1 (omega arith))
-    (both round (round ⋈ rows listed ⋈ several (up_to 16) digest ⋈ bits) round_exact
-    (both round (rows listed ⋈ several (up_to 16) digest ⋈ bits) round_exact
-    (both (rows listed) (several (up_to 16) digest ⋈ bits) listed_exact
-    (both (several (up_to 16) digest) bits digests_exact bits_exact)))))
+    (λ x. record { version = x.0; r = x.1.0; prev = x.1.1.0; thin = x.1.1.1.0; listed = x.1.1.1.1.0; digests = x.1.1.1.1.1.0; out = x.1.1.1.1.1.1 })
+    (λ b. (b.version, (b.r, (b.prev, (b.thin, (b.listed, (b.digests, b.out)))))))
+    (led_by (few 2) body_fields) (λ a h. refl) (λ b. refl) (led (few 2) body_fields (few_exact 2 (omega arith)) fields_exact)
 
 told_there : (n : ℕ) → (1 ≤ n) × (n ≤ 2) → told_byte (word_told n) ≡ n
 told_there zero h = absurd (omega arith)

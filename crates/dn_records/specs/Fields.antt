@@ -53,6 +53,13 @@ read_few n c = read_byte c >>= λ b. if b.0 == 0 || nat_lt n b.0 then Err (Shape
 abbrev pub few : ℕ → Part ℕ
 few n = record { spell = λ b. b ∷ []; read = read_few n; Fits = λ b. (1 ≤ b) × (b ≤ n) }
 
+-- a byte that is 1 for yes and 0 for no
+unfoldable pub read_flag : Cursor → Read Bool
+read_flag c = read_byte c >>= λ b. if nat_lt 1 b.0 then Err (Shape c.at) else Ok (b.0 == 1, b.1)
+
+abbrev pub flag : Part Bool
+flag = record { spell = λ yes. (if yes then 1 else 0) ∷ []; read = read_flag; Fits = λ yes. Unit {0} }
+
 -- n bytes
 abbrev pub exactly : ℕ → Part (List ℕ)
 exactly n = record { spell = λ bytes. bytes; read = read_bytes n; Fits = λ bytes. length bytes ≡ n }

@@ -39,6 +39,14 @@ p ⋈ q = record {
   Fits = λ x. p.Fits x.0 × q.Fits x.1;
 }
 
+-- one part, and then one that goes by its value
+abbrev pub led_by : {A B : Type 0} → Part A → (A → Part B) → Part (A × B)
+led_by p q = record {
+  spell = λ x. p.spell x.0 ++ (q x.0).spell x.1;
+  read = λ c. p.read c >>= λ x. (q x.0).read x.1 >>= λ y. Ok ((x.0, y.0), y.1);
+  Fits = λ x. p.Fits x.0 × (q x.0).Fits x.1;
+}
+
 -- what was read, as another value
 abbrev pub made : {A B : Type 0} → (A → B) → Read A → Read B
 made f read = read >>= λ x. Ok (f x.0, x.1)

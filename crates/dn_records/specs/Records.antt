@@ -1,5 +1,5 @@
 -- Each record as its parts.
-use Rattle.std.specs.Prelude.{ℕ, Bool, List, ◌∷◌, ◌++◌, Result, Ok, Err, ◌==◌, if◌then◌else◌}
+use Rattle.std.specs.Prelude.{◌≡◌, ℕ, Bool, false, IsTrue, List, [], ◌∷◌, ◌++◌, Result, Ok, Err, ◌==◌, if◌then◌else◌}
 use Rattle.dn_wire.specs.Cursor.{Cursor, start}
 use Rattle.dn_wire.specs.declared.ids.ClientId.{ClientId}
 use Rattle.dn_wire.specs.declared.ids.ServerId.{ServerId}
@@ -21,8 +21,8 @@ use Rattle.dn_records.specs.declared.payload.Payload.{Payload}
 use Rattle.dn_records.specs.declared.payload.Payload.TheVariants as payloads
 use Rattle.dn_records.specs.declared.fault.RecordFault.{RecordFault}
 use Rattle.dn_records.specs.declared.fault.RecordFault.TheVariants.{Kind}
-use Rattle.dn_records.specs.Part.{Part, Read, made, ◌>>=◌, ◌⋈◌, seen, whole}
-use Rattle.dn_records.specs.Fields.{short, word, up_to, few, exactly, sized, bits, round, client, server, slot, digest, read_byte}
+use Rattle.dn_records.specs.Part.{Part, Read, made, ◌>>=◌, ◌⋈◌, led_by, seen, whole}
+use Rattle.dn_records.specs.Fields.{short, word, up_to, few, flag, exactly, sized, bits, round, client, server, slot, digest, read_byte, read_flag}
 use Rattle.dn_records.specs.Lists.{Row, rows, several, inside}
 
 abbrev pub entry : Row Entry
@@ -55,12 +55,26 @@ shown_cipher = record {
   part = bits;
 }
 
--- the body of version 1
+-- whether a body of this version is thin: a byte in version 2, and nothing in version 1, in which no body is
+unfoldable pub spell_thin : ℕ → Bool → List ℕ
+spell_thin version thin = if version == 2 then flag.spell thin else []
+
+unfoldable pub read_thin : ℕ → Cursor → Read Bool
+read_thin version c = if version == 2 then read_flag c else Ok (false, c)
+
+abbrev pub thin_in : ℕ → Part Bool
+thin_in version = record { spell = spell_thin version; read = read_thin version; Fits = λ thin. IsTrue thin → version ≡ 2 }
+
+-- what follows the version of a body
+abbrev pub body_fields : ℕ → Part (Round × (Round × (Bool × (List Listed × (List (List ℕ) × List Bool)))))
+body_fields version = round ⋈ round ⋈ thin_in version ⋈ rows listed ⋈ several (up_to 16) digest ⋈ bits
+
+-- the body, of version 1 or 2
 abbrev pub body : Part Body
 body = seen
-    (λ x. record { version = x.0; r = x.1.0; prev = x.1.1.0; listed = x.1.1.1.0; digests = x.1.1.1.1.0; out = x.1.1.1.1.1 })
-    (λ b. (b.version, (b.r, (b.prev, (b.listed, (b.digests, b.out))))))
-    (few 1 ⋈ round ⋈ round ⋈ rows listed ⋈ several (up_to 16) digest ⋈ bits)
+    (λ x. record { version = x.0; r = x.1.0; prev = x.1.1.0; thin = x.1.1.1.0; listed = x.1.1.1.1.0; digests = x.1.1.1.1.1.0; out = x.1.1.1.1.1.1 })
+    (λ b. (b.version, (b.r, (b.prev, (b.thin, (b.listed, (b.digests, b.out)))))))
+    (led_by (few 2) body_fields)
 
 abbrev pub word_told : ℕ → WordTold
 word_told n = if n == 1 then Included else Late

@@ -112,10 +112,12 @@ impl Digests {
 /// The outcome of round `r` after round `prev`.
 #[derive(Drop)]
 pub struct Body {
-    /// The version of the format, which is 1.
+    /// The version of the group, which is 1 or 2.
     pub version: u8,
     pub r: Round,
     pub prev: Round,
+    /// Whether too few clients took part, so that there are no digests and no output. In version 1 it is false.
+    pub thin: bool,
     /// The clients that count, in ascending order.
     pub listed: Rows,
     /// The digest of each server's ciphertext, by server.
@@ -133,6 +135,7 @@ impl Body {
             version: self.version,
             r: self.r,
             prev: self.prev,
+            thin: self.thin,
             listed: self.listed.copy(alloc)?,
             digests: self.digests.copy(alloc)?,
             out: self.out.copy()?,
@@ -146,6 +149,7 @@ impl Body {
         self.version == other.version
             && self.r == other.r
             && self.prev == other.prev
+            && self.thin == other.thin
             && self.listed.equals(&other.listed)
             && self.digests.equals(&other.digests)
             && self.out.equals(&other.out)

@@ -3,7 +3,7 @@
 ghost use Rattle.std.specs.Prelude.{◌≡◌, ◌+◌, ◌/◌, length, IfOk};
 ghost use Rattle.std.specs.Int.{w16, w32, w64};
 ghost use Rattle.dn_records.specs.Part.{Reads};
-ghost use Rattle.dn_records.specs.Fields.{read_byte, read_number, read_limited, read_bytes, read_inner, read_few, sized, short, word, up_to, round, client, server, slot, digest};
+ghost use Rattle.dn_records.specs.Fields.{read_byte, read_number, read_limited, read_bytes, read_inner, read_few, read_flag, sized, short, word, up_to, round, client, server, slot, digest};
 ghost use Rattle.dn_records.specs.Lists.{read_client};
 ghost use Rattle.dn_records.specs.Fields.{ends_in_zeros, read_bits};
 
@@ -74,6 +74,19 @@ pub fn few_of(reader: &mut Reader, n: u8) -> Result<u8, RecordFault>
         return Err(RecordFault::Shape { at });
     }
     Ok(byte)
+}
+
+/// A byte that is 1 for yes and 0 for no.
+#[tactic(auto, unfolding(crate::specs::Fields::read_flag))]
+pub fn flag_of(reader: &mut Reader) -> Result<bool, RecordFault>
+    ensures { Reads (λ x. x) result reader.new (read_flag reader.old) }
+{
+    let at = reader.at();
+    let byte = u8_of(reader)?;
+    if 1 < byte {
+        return Err(RecordFault::Shape { at });
+    }
+    Ok(byte == 1)
 }
 
 pub fn round_of(reader: &mut Reader) -> Result<Round, RecordFault>

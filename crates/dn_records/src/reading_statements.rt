@@ -4,14 +4,14 @@ ghost use Rattle.std.specs.Prelude.{◌≡◌};
 ghost use Rattle.dn_records.specs.Part.{Reads};
 ghost use Rattle.dn_records.specs.Fields.{up_to};
 ghost use Rattle.dn_records.specs.Lists.{read_inside};
-ghost use Rattle.dn_records.specs.Records.{inventory, body, told, statement, read_kind, read_statement, read_submission, read_receipt, read_inventory, read_commit, read_reveal, read_sign, read_pad_bits, read_shown, read_accusation, read_rebuttal, read_concede};
+ghost use Rattle.dn_records.specs.Records.{inventory, body, thin_in, told, statement, read_kind, read_statement, read_submission, read_receipt, read_inventory, read_commit, read_reveal, read_sign, read_pad_bits, read_shown, read_accusation, read_rebuttal, read_concede};
 
 use crate::body::Body;
 use crate::fault::RecordFault;
 use crate::inventory::Inventory;
 use crate::reading::{
-    bits_of, client_of, digest_of, few_of, inner_of, limited_bytes_of, limited_of, round_of,
-    server_of, slot_of, u8_of, u32_of,
+    bits_of, client_of, digest_of, few_of, flag_of, inner_of, limited_bytes_of, limited_of,
+    round_of, server_of, slot_of, u8_of, u32_of,
 };
 use crate::reading_lists::{digests_of, entries_of, rows_of, shown_of};
 use crate::statement::{Statement, WordTold};
@@ -27,12 +27,25 @@ fn inventory_of(alloc: Global, reader: &mut Reader) -> Result<Inventory, RecordF
     Ok(Inventory { r, prev, entries })
 }
 
+/// Whether a body of this version is thin.
+#[tactic(auto, unfolding(crate::specs::Records::read_thin))]
+fn thin_of(reader: &mut Reader, version: u8) -> Result<bool, RecordFault>
+    ensures { Reads (λ x. x) result reader.new ((thin_in version).read reader.old) }
+{
+    if version == 2 {
+        flag_of(reader)
+    } else {
+        Ok(false)
+    }
+}
+
 pub fn body_of(alloc: Global, reader: &mut Reader) -> Result<Body, RecordFault>
     ensures { Reads (λ x. x) result reader.new (body.read reader.old) }
 {
-    let version = few_of(reader, 1)?;
+    let version = few_of(reader, 2)?;
     let r = round_of(reader)?;
     let prev = round_of(reader)?;
+    let thin = thin_of(reader, version)?;
     let listed = rows_of(alloc, reader)?;
     let digests = digests_of(alloc, reader)?;
     let out = bits_of(alloc, reader)?;
@@ -40,6 +53,7 @@ pub fn body_of(alloc: Global, reader: &mut Reader) -> Result<Body, RecordFault>
         version,
         r,
         prev,
+        thin,
         listed,
         digests,
         out,

@@ -4,7 +4,7 @@ ghost use Rattle.std.specs.Prelude.{◌≡◌, ◌<◌, ◌≤◌, ◌^◌, ◌+
 ghost use Rattle.std.specs.List.{AllByRecursion, flat_map};
 ghost use Rattle.dn_records.specs.Fields.{short, word, long, up_to, sized, bits, digest};
 ghost use Rattle.dn_records.specs.Lists.{spell_row, FitsRow, rows, several};
-ghost use Rattle.dn_records.specs.Records.{entry, listed, shown_cipher, inventory, body};
+ghost use Rattle.dn_records.specs.Records.{entry, listed, shown_cipher, inventory, thin_in, body};
 
 use crate::body::{Body, Digests, Listed, Rows};
 use crate::byte_lists::ByteLists;
@@ -205,6 +205,17 @@ pub fn put_inventory(out: &mut Vec<u8>, v: &Inventory) -> Result<(), NoMemory>
     put_entries(out, &v.entries)
 }
 
+/// Whether a body of this version is thin.
+#[tactic(auto, unfolding(crate::specs::Records::spell_thin))]
+fn put_thin(out: &mut Vec<u8>, version: u8, thin: bool) -> Result<(), NoMemory>
+    ensures { OnOk result (out.new.items ≡ out.old.items ++ (thin_in version).spell thin) }
+{
+    if version == 2 {
+        put_u8(out, u8::from(thin))?;
+    }
+    Ok(())
+}
+
 pub fn put_body(alloc: Global, out: &mut Vec<u8>, b: &Body) -> Result<(), NoMemory>
     requires { body.Fits b.now }
     ensures { OnOk result (out.new.items ≡ out.old.items ++ body.spell b.now) }
@@ -212,6 +223,7 @@ pub fn put_body(alloc: Global, out: &mut Vec<u8>, b: &Body) -> Result<(), NoMemo
     put_u8(out, b.version)?;
     put_long(out, b.r.0)?;
     put_long(out, b.prev.0)?;
+    put_thin(out, b.version, b.thin)?;
     put_rows(out, &b.listed)?;
     put_digests(out, &b.digests)?;
     put_bits(alloc, out, &b.out)
