@@ -1,6 +1,6 @@
 -- The digests of the protocol: SHA-256 (FIPS 180-4, section 6.2) of a tag and what the tag stands for. Numbers have their high byte
 -- first.
-use Rattle.std.specs.Prelude.{ℕ, List, ◌++◌, take, codes}
+use Rattle.std.specs.Prelude.{ℕ, ◌==◌, List, ◌++◌, take, codes, if◌then◌else◌}
 use Rattle.std.specs.Int.{w32, w64, to_be_bytes}
 use Rattle.sha2.specs.Sha256.{sha256}
 
@@ -32,6 +32,10 @@ block_check_of rest = take 8 (sha256 (codes "dnblock" ++ rest))
 unfoldable pub mask_seed_of : List ℕ → ℕ → List ℕ
 mask_seed_of secret r = take 16 (sha256 (codes "dnmasks" ++ secret ++ to_be_bytes w64 r))
 
--- the digest of a group, from its roster's bytes
-unfoldable pub group_digest_of : List ℕ → List ℕ
-group_digest_of roster = sha256 (codes "dngroup" ++ roster)
+-- the tag of the digest of a group, by the group's version
+abbrev pub group_tag_of : ℕ → List ℕ
+group_tag_of version = if version == 2 then codes "dngrp2" else codes "dngroup"
+
+-- the digest of a group of this version, from its roster's bytes
+unfoldable pub group_digest_of : ℕ → List ℕ → List ℕ
+group_digest_of version roster = sha256 (group_tag_of version ++ roster)

@@ -1,6 +1,6 @@
 // Each digest feeds its pieces to the hasher in turn.
 ghost use Rattle.std.specs.Prelude.{◌≡◌};
-ghost use Rattle.dn_hash.specs.Digests.{tagged_digest, seed_commitment_of, cipher_digest_of, server_digest_of, mask_key_of, block_check_of, mask_seed_of, group_digest_of};
+ghost use Rattle.dn_hash.specs.Digests.{tagged_digest, seed_commitment_of, cipher_digest_of, server_digest_of, mask_key_of, block_check_of, mask_seed_of, group_tag_of, group_digest_of};
 
 use sha2::{Digest, Sha256};
 
@@ -80,10 +80,17 @@ pub fn mask_seed(secret: &[u8; 32], r: u64) -> [u8; 16]
     seed
 }
 
-/// The digest of a group, from its roster's bytes.
-#[tactic(auto, unfolding(crate::specs::Digests::group_digest_of, crate::specs::Digests::tagged_digest))]
-pub fn group_digest(roster: &[u8]) -> [u8; 32]
-    ensures { result ≡ group_digest_of roster.now }
+/// The tag of the digest of a group, by the group's version: `dngroup` for version 1, and `dngrp2` for version 2.
+pub fn group_tag(version: u8) -> &'static [u8]
+    ensures { result.now ≡ group_tag_of version }
 {
-    tagged(b"dngroup", roster, b"")
+    if version == 2 { b"dngrp2" } else { b"dngroup" }
+}
+
+/// The digest of a group of this version, from its roster's bytes.
+#[tactic(auto, unfolding(crate::specs::Digests::group_digest_of, crate::specs::Digests::tagged_digest))]
+pub fn group_digest(version: u8, roster: &[u8]) -> [u8; 32]
+    ensures { result ≡ group_digest_of version roster.now }
+{
+    tagged(group_tag(version), roster, b"")
 }

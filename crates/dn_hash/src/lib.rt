@@ -5,6 +5,6 @@
 mod digests;
 
 pub use digests::{
-    block_check, cipher_digest, group_digest, mask_key, mask_seed, seed_commitment, server_digest,
-    tagged,
+    block_check, cipher_digest, group_digest, group_tag, mask_key, mask_seed, seed_commitment,
+    server_digest, tagged,
 };

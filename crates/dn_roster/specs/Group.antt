@@ -2,8 +2,9 @@
 use Rattle.std.specs.Prelude.{◌≤◌}
 use Rattle.dn_roster.specs.declared.group.GroupSpec.{GroupSpec}
 
--- the numbers of members and the typecodes are within their limits
+-- the version, the numbers of members and the typecodes are within their limits
 pub record IsWithinLimits (group : GroupSpec) : Type 0 where
+  pub version : (1 ≤ group.version) × (group.version ≤ 2)
   pub clients : (1 ≤ group.clients) × (group.clients ≤ 512)
   pub servers : (1 ≤ group.servers) × (group.servers ≤ 16)
   pub ots : (1 ≤ group.ots) × (group.ots ≤ 4)

@@ -7,8 +7,10 @@ use Rattle.dn_wire.specs.declared.ids.SignerId.TheVariants.{Client, Server, Slot
 use Rattle.dn_hash.specs.Digests.{group_digest_of}
 use Rattle.dn_roster.specs.Dealing.{number_of}
 
--- the typecodes, the public keys by number, and the commitments to the pairs' seeds, client by client and within it server by server
+-- the version of the group, the typecodes, the public keys by number, and the commitments to the pairs' seeds, client by client and within
+-- it server by server
 pub record RosterView : Type 0 where
+  pub version : ℕ
   pub ots : ℕ
   pub client_lms : ℕ
   pub server_lms : ℕ
@@ -19,6 +21,7 @@ pub record RosterView : Type 0 where
 
 -- all of it is within its limits: a slot for each client, and a commitment for each pair
 pub record IsRoster (roster : RosterView) : Type 0 where
+  pub version : (1 ≤ roster.version) × (roster.version ≤ 2)
   pub ots : (1 ≤ roster.ots) × (roster.ots ≤ 4)
   pub client_lms : (5 ≤ roster.client_lms) × (roster.client_lms ≤ 6)
   pub server_lms : (5 ≤ roster.server_lms) × (roster.server_lms ≤ 7)
@@ -46,9 +49,9 @@ roster_bytes_of roster =
     ++ to_be_bytes w32 roster.ots ++ to_be_bytes w32 roster.client_lms ++ to_be_bytes w32 roster.server_lms
     ++ joined roster.clients ++ joined roster.servers ++ joined roster.slots ++ joined roster.seals
 
--- the digest of the group
+-- the digest of the group, whose tag goes by the version; the bytes don't tell it
 abbrev pub digest_of : RosterView → List ℕ
-digest_of roster = group_digest_of (roster_bytes_of roster)
+digest_of roster = group_digest_of roster.version (roster_bytes_of roster)
 
 -- the byte that stands for the kind of a signer
 abbrev pub signer_tag : SignerId → ℕ

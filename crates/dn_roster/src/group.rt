@@ -1,6 +1,8 @@
-/// How large a group is, which keys it has, and the seed that all of it is dealt from.
+/// Which version a group has, how large it is, which keys it has, and the seed that all of it is dealt from.
 #[derive(Clone, Copy, Debug, PartialEq, Eq)]
 pub struct GroupSpec {
+    /// The version of the group's bodies and of its digest, 1 or 2. Nothing that is dealt goes by it.
+    pub version: u8,
     /// The number of clients, 1 to 512. Slots are as many.
     pub clients: u32,
     /// The number of servers, 1 to 16.

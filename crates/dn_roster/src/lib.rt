@@ -2,7 +2,7 @@
 //!
 //! A `GroupSpec` says how large a group is and which keys it has. What the dealer deals are bytes of the ChaCha20 keystream
 //! of the group's seed (RFC 8439, section 2.4, with a stream number of 64 bits in place of the nonce), as
-//! `specs/Dealing.antt` has it. A `Roster` is seen as its codes and lists, the record `RosterView`; its digest stands in
+//! `specs/Dealing.antt` has it. A `Roster` is seen as its version, its codes and its lists, the record `RosterView`; its digest stands in
 //! each message that a member of the group signs.
 #![tactic(auto)]
 

@@ -1,16 +1,18 @@
 ghost use Rattle.std.specs.Prelude.{◌≡◌, ◌*◌, ◌%◌, ◌<◌, ◌≤◌, length, MatchOption, None, Some, IfOk, IfSome};
 ghost use Rattle.dn_roster.specs.Roster.{RosterView, IsRoster, key_of, commitment_of, roster_bytes_of, digest_of, signed_bytes_of};
 
+use dn_hash::group_tag;
 use dn_memory::NoMemory;
 use dn_wire::{ClientId, ServerId, SignerId, put_bytes, put_u8, put_u32};
 use sha2::{Digest, Sha256};
 use std::alloc::Global;
 use std::marker::Model;
 
-/// The roster of a group: its typecodes, the public keys of its clients, servers and slots, and the commitments to the
+/// The roster of a group: its version, its typecodes, the public keys of its clients, servers and slots, and the commitments to the
 /// seeds of all pairs.
 #[derive(Drop)]
 pub struct Roster {
+    version: u8,
     ots: u32,
     client_lms: u32,
     server_lms: u32,
@@ -27,17 +29,18 @@ impl Model for Roster {
 
     ghost Value = { RosterView };
 
-    ghost view = { λ r. record { ots = r.ots; client_lms = r.client_lms; server_lms = r.server_lms; clients = r.clients.items; servers = r.servers.items; slots = r.slots.items; seals = r.seals.items } };
+    ghost view = { λ r. record { version = r.version; ots = r.ots; client_lms = r.client_lms; server_lms = r.server_lms; clients = r.clients.items; servers = r.servers.items; slots = r.slots.items; seals = r.seals.items } };
 
     ghost invariant = { λ r.
-        let v : RosterView = record { ots = r.ots; client_lms = r.client_lms; server_lms = r.server_lms; clients = r.clients.items; servers = r.servers.items; slots = r.slots.items; seals = r.seals.items } in
+        let v : RosterView = record { version = r.version; ots = r.ots; client_lms = r.client_lms; server_lms = r.server_lms; clients = r.clients.items; servers = r.servers.items; slots = r.slots.items; seals = r.seals.items } in
         IsRoster v × (r.digest ≡ digest_of v) };
 }
 
 impl Roster {
-    /// The roster with these typecodes and lists. `seals` are the commitments, client by client and within each server by
+    /// The roster with this version, 1 or 2, and these typecodes and lists. `seals` are the commitments, client by client and within each server by
     /// server.
     pub fn make(
+        version: u8,
         ots: u32,
         client_lms: u32,
         server_lms: u32,
@@ -46,11 +49,11 @@ impl Roster {
         slots: Vec<[u8; 56]>,
         seals: Vec<[u8; 32]>,
     ) -> Roster
-        requires { IsRoster record { ots = ots; client_lms = client_lms; server_lms = server_lms; clients = clients.items; servers = servers.items; slots = slots.items; seals = seals.items } }
-        ensures { result ≡ record { ots = ots; client_lms = client_lms; server_lms = server_lms; clients = clients.items; servers = servers.items; slots = slots.items; seals = seals.items } }
+        requires { IsRoster record { version = version; ots = ots; client_lms = client_lms; server_lms = server_lms; clients = clients.items; servers = servers.items; slots = slots.items; seals = seals.items } }
+        ensures { result ≡ record { version = version; ots = ots; client_lms = client_lms; server_lms = server_lms; clients = clients.items; servers = servers.items; slots = slots.items; seals = seals.items } }
     {
         let mut hasher = Sha256::new();
-        hasher.update("dngroup");
+        hasher.update(group_tag(version));
         hasher.update((clients.len() as u32).to_be_bytes());
         hasher.update((servers.len() as u32).to_be_bytes());
         hasher.update(ots.to_be_bytes());
@@ -62,6 +65,7 @@ impl Roster {
         hasher.update(seals.as_flattened());
         let digest = hasher.finalize();
         Roster {
+            version,
             ots,
             client_lms,
             server_lms,
@@ -71,6 +75,14 @@ impl Roster {
             seals,
             digest,
         }
+    }
+
+    /// The version of the group.
+    pub fn version(&self) -> u8
+        ensures value { result ≡ self.now.version }
+        ensures limits { IsRoster self.now }
+    {
+        self.version
     }
 
     /// The number of clients, which is that of the slots.
@@ -121,7 +133,7 @@ impl Roster {
         ServerId(i.0 % self.servers())
     }
 
-    /// The bytes of which the digest is taken.
+    /// The bytes of which the digest is taken. They don't tell the version.
     #[tactic(auto, unfolding(crate::specs::Roster::roster_bytes_of))]
     pub fn roster_bytes(&self, alloc: Global) -> Result<Vec<u8>, NoMemory>
         ensures { IfOk result (λ v. v.items ≡ roster_bytes_of self.now) }

@@ -1,9 +1,14 @@
+ghost use Rattle.std.specs.Prelude.{◌≤◌};
+
 use crate::{GroupSpec, Roster, mask_secret, member_key, pair_seed, slot_owners};
 use dn_hash::group_digest;
+use dn_memory::NoMemory;
 use dn_wire::{ClientId, ServerId, SignerId, SlotId};
+use std::alloc::Global;
 use std::test::Fail;
 
 const GROUP: GroupSpec = GroupSpec {
+    version: 1,
     clients: 5,
     servers: 3,
     ots: 3,
@@ -78,10 +83,12 @@ fn slots_go_by_the_dealt_numbers(rt: HostRuntime) -> Result<(), Fail> {
     Ok(())
 }
 
-#[test]
-fn a_roster_has_its_bytes(rt: HostRuntime) -> Result<(), Fail> {
-    let alloc = rt.alloc();
-    let roster = Roster::make(
+/// The roster of one client and one server, of this version.
+fn small_roster(alloc: Global, version: u8) -> Result<Roster, NoMemory>
+    requires { (1 ≤ version) × (version ≤ 2) }
+{
+    Ok(Roster::make(
+        version,
         3,
         5,
         6,
@@ -89,10 +96,16 @@ fn a_roster_has_its_bytes(rt: HostRuntime) -> Result<(), Fail> {
         vec![in alloc; [2; 56]]?,
         vec![in alloc; [3; 56]]?,
         vec![in alloc; [4; 32]]?,
-    );
+    ))
+}
+
+#[test]
+fn a_roster_has_its_bytes(rt: HostRuntime) -> Result<(), Fail> {
+    let alloc = rt.alloc();
+    let roster = small_roster(alloc, 1)?;
     let bytes = roster.roster_bytes(alloc).expect(&rt, "memory");
     assert_eq!(rt; bytes.len(), 20 + 3 * 56 + 32);
-    assert_eq!(rt; roster.digest(), group_digest(&bytes));
+    assert_eq!(rt; roster.digest(), group_digest(1, &bytes));
     let signed = roster
         .signed_bytes(alloc, SignerId::Slot(SlotId(0)), &[7])
         .expect(&rt, "memory");

@@ -67,6 +67,7 @@ commitment_dealt_to group i j = seed_commitment_of i j (seed_dealt_to group i j)
 -- the roster of the keys and seeds that are dealt
 abbrev pub dealt_roster : GroupSpec → RosterView
 dealt_roster group = record {
+  version = group.version;
   ots = group.ots;
   client_lms = group.client_lms;
   server_lms = group.server_lms;

@@ -163,6 +163,7 @@ pub fn deal(alloc: Global, spec: &GroupSpec) -> Result<Dealt, NoMemory>
     let server_keys = deal_keys(alloc, spec, Kind::Server, spec.servers)?;
     let slot_keys = deal_keys(alloc, spec, Kind::Slot, spec.clients)?;
     let roster = Roster::make(
+        spec.version,
         spec.ots,
         spec.client_lms,
         spec.server_lms,

@@ -16,6 +16,7 @@ use std::alloc::Global;
 use std::test::Fail;
 
 const GROUP: GroupSpec = GroupSpec {
+    version: 1,
     clients: 3,
     servers: 2,
     ots: 2,

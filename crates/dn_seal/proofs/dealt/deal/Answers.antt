@@ -12,6 +12,7 @@ make-roster-requires c =
     let servers = length-public_keys group server group.servers _ (c.in_ok-public_keys-2.ensures ∙ ap (map public_key) (c.deref-2.ensures.value ∙ c.in_ok-server_keys.ensures.dealt)) in
     let slots = length-public_keys group slot group.clients _ (c.in_ok-public_keys-3.ensures ∙ ap (map public_key) (c.deref-3.ensures.value ∙ c.in_ok-slot_keys.ensures.dealt)) in
     record {
+      version = r.version;
       ots = r.ots;
       client_lms = r.client_lms;
       server_lms = r.server_lms;
