@@ -144,6 +144,16 @@ impl Layout {
         self.lengths.len() as u32
     }
 
+    /// An equal layout.
+    pub fn copy(&self, alloc: Global) -> Result<Layout, NoMemory>
+        ensures { IfOk result (λ l. l ≡ self.now) }
+    {
+        Ok(Layout {
+            lengths: Vec::from_slice(alloc, &self.lengths)?,
+            bits: self.bits,
+        })
+    }
+
     /// How many bits the round has: a request bit for each slot, zeros up to a whole byte, and the open slots' blocks.
     pub fn bits(&self) -> u32
         ensures bits { result ≡ bits_of self.now }
