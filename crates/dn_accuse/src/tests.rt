@@ -16,6 +16,7 @@ use std::process::Abort;
 use std::test::Fail;
 
 const GROUP: GroupSpec = GroupSpec {
+    version: 1,
     clients: 3,
     servers: 2,
     ots: 2,
@@ -101,6 +102,7 @@ fn rebuttals_are_good_where_the_bits_differ(rt: HostRuntime) -> Result<(), Fail>
 /// A roster of one client and one server.
 fn small_roster(alloc: Global) -> Result<Roster, NoMemory> {
     Ok(Roster::make(
+        1,
         2,
         5,
         5,
@@ -119,6 +121,7 @@ fn body_with_one(alloc: Global) -> Result<Body, NoMemory> {
         version: 1,
         r: Round(2),
         prev: Round(1),
+        thin: false,
         listed: Rows::of(Vec::new(alloc)),
         digests: Digests::of(Vec::new(alloc)),
         out,

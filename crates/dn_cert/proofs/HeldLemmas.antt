@@ -7,12 +7,11 @@ use Rattle.std.proofs.lemmas.Bool.{cases_lt}
 use Rattle.std.proofs.lemmas.List.{get_or-map, length-map, get_or_default}
 use Rattle.std.proofs.lemmas.List.Elements.{All-contains, All-weaker}
 use Rattle.dn_records.specs.declared.body.Body.{Body}
-use Rattle.dn_layout.specs.Layout.{next_of}
 use Rattle.dn_cert.specs.declared.held.Held.{Held}
 use Rattle.dn_cert.specs.Certificate.{CertificateView, IsCertificate}
-use Rattle.dn_cert.specs.Chain.{ChainView, bodies, Holds, IsLayoutAfter, CanFollow, IsChain, IsLatestBelow, with_held}
+use Rattle.dn_cert.specs.Chain.{ChainView, bodies, Holds, IsLayoutAfter, layout_after, count_at, CanFollow, IsChain, IsLatestBelow, with_held}
 use Rattle.dn_cert.proofs.ListLemmas.{rises, Contains-map, Contains-from_map, map-insert, All-insert}
-use Rattle.dn_cert.proofs.ChainLemmas.{longer, longer_is_chain, longer_is_with, layouts_stay, layout_comes}
+use Rattle.dn_cert.proofs.ChainLemmas.{count_held, count_unheld, longer, longer_is_chain, longer_is_with, layouts_stay, layout_comes}
 
 -- where the first that isn't below a number doesn't have it, none has
 pub none_of : {X : Type 0} (n : X → ℕ) (xs : List X) (r at : ℕ) → IsStrictlyIncreasing (map n xs) → AllWithin (λ x. n x < r) xs 0 at
@@ -122,7 +121,7 @@ module _ (slots : ℕ) (held : List Held) (h : Held) (at : ℕ) (keeps : Keeps s
   pub holds_with : now ≡ record (chain_of slots held) { held = with_held h.certificate certificates }
   holds_with = now_is ∙ sym (longer_is_with (chain_of slots held) h.certificate at keeps.0 cert can fits_there below_there above_there)
 
-  pub keeps_more : (before : List ℕ) → IsLayoutAfter (chain_of slots held) h.certificate.body.prev.0 before → h.layout ≡ next_of before h.certificate.body.out → Keeps slots (insert held at h)
+  pub keeps_more : (before : List ℕ) → IsLayoutAfter (chain_of slots held) h.certificate.body.prev.0 before → h.layout ≡ layout_after before h.certificate.body → Keeps slots (insert held at h)
   keeps_more before after is =
       let stays = layouts_stay (chain_of slots held) h.certificate at keeps.0 cert can fits_there below_there above_there in
       let comes = layout_comes (chain_of slots held) h.certificate at keeps.0 cert can fits_there below_there above_there before after in (
@@ -140,6 +139,13 @@ module _ (slots : ℕ) (held all : List Held) (chain : ChainView) (same : held �
 
   pub none_seen : (r : ℕ) → All (λ (h : Held). h.certificate.body.r.0 ≢ r) held → ¬ Holds chain r
   none_seen r none = subst (λ v. ¬ Holds v r) is (not_held slots all r (subst (All (λ (h : Held). h.certificate.body.r.0 ≢ r)) same none))
+
+  -- how many counted in the round of one of them, and in a round of none of them
+  pub count_seen : (h : Held) → IsChain (chain_of slots all) → Contains held h → count_at chain h.certificate.body.r.0 ≡ length h.certificate.body.listed
+  count_seen h c a = count_held chain h.certificate.body (subst IsChain is c) (body_seen h a)
+
+  pub no_count_seen : (r : ℕ) → All (λ (h : Held). h.certificate.body.r.0 ≢ r) held → count_at chain r ≡ 0
+  no_count_seen r none = count_unheld chain r (none_seen r none)
 
   pub none_below_seen : (r at : ℕ) → at ≡ 0 → AllWithin (λ (h : Held). r ≤ h.certificate.body.r.0) held at (length held) → IsLatestBelow chain r 0
   none_below_seen r at z above =
@@ -167,7 +173,7 @@ found_none Q None q e = q
 pub held_more : (slots : ℕ) (items new there : List Held) (chain : ChainView) (c : CertificateView) (asked laid placed : Body) (before layout : List ℕ) (at : ℕ)
     → chain_of slots items ≡ chain → Keeps slots items → IsCertificate c
     → asked ≡ c.body → CanFollow chain asked → IsLayoutAfter chain asked.prev.0 before
-    → laid ≡ c.body → layout ≡ next_of before laid.out
+    → laid ≡ c.body → layout ≡ layout_after before laid
     → there ≡ items → placed ≡ c.body → at ≤ length there
     → AllWithin (λ (h : Held). h.certificate.body.r.0 < placed.r.0) there 0 at
     → AllWithin (λ (h : Held). placed.r.0 ≤ h.certificate.body.r.0) there at (length there)
@@ -183,7 +189,7 @@ held_more slots items new there chain c asked laid placed before layout at seen 
     subst (λ l. AllWithin (λ (g : Held). g.certificate.body.r.0 < c.body.r.0) l 0 at) same (subst (λ (b : Body). AllWithin (λ (g : Held). g.certificate.body.r.0 < b.r.0) there 0 at) by below) in
     let above' : AllWithin (λ (g : Held). c.body.r.0 ≤ g.certificate.body.r.0) items at (length items) =
     subst (λ l. AllWithin (λ (g : Held). c.body.r.0 ≤ g.certificate.body.r.0) l at (length l)) same (subst (λ (b : Body). AllWithin (λ (g : Held). b.r.0 ≤ g.certificate.body.r.0) there at (length there)) by above) in
-    let more = keeps_more slots items h at keeps cert can' fits' below' above' before after' (is ∙ ap (λ (b : Body). next_of before b.out) on) in
+    let more = keeps_more slots items h at keeps cert can' fits' below' above' before after' (is ∙ ap (layout_after before) on) in
     let with' = holds_with slots items h at keeps cert can' fits' below' above' in (
       subst (Keeps slots) (sym pushed) more,
       follows,

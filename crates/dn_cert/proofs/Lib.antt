@@ -5,5 +5,8 @@ pub mod Parts
 pub mod PartLemmas
 pub mod RefusalLemmas
 pub mod ListLemmas
+pub mod CountLemmas
 pub mod ChainLemmas
 pub mod HeldLemmas
+pub mod ThinLemmas
+pub mod FloorLemmas

@@ -11,11 +11,11 @@ use Rattle.dn_records.proofs.Laws.{ok_is}
 use Rattle.dn_roster.specs.Roster.{RosterView, digest_of}
 use Rattle.dn_cert.specs.declared.fault.CertFault.{CertFault}
 use Rattle.dn_cert.specs.declared.fault.CertFault.TheVariants as refusals
-use Rattle.dn_cert.specs.Certificate.{IsSigned, IsInGroup, IsSignedAt, IsFirstUnsigned, IsRefused, refusal_of, certificate_of}
+use Rattle.dn_cert.specs.Certificate.{IsSigned, IsOfRoster, IsSignedAt, IsFirstUnsigned, IsRefused, refusal_of, certificate_of}
 use Rattle.dn_cert.proofs.PartLemmas.{parts_again}
 
 module _ (roster : RosterView) (bytes : List ℕ) (body : Body) (signatures : List (List ℕ))
-    (signed : IsSigned (digest_of roster) (length roster.clients) roster.servers body signatures)
+    (signed : IsSigned (digest_of roster) roster.version (length roster.clients) roster.servers body signatures)
     (is : bytes ≡ payload_bytes (payloads.Certificate body signatures)) where
   again : certificate_of bytes ≡ Ok (body, signatures)
   again = parts_again bytes body signatures signed.fits is
@@ -37,7 +37,7 @@ module _ (roster : RosterView) (bytes : List ℕ) (body : Body) (signatures : Li
       let k = same_parts r.0 r.1 r.2 in absurd (r.3.0 (ap length k.1 ∙ signed.each))
   refused_for_memory (refusals.Body server) r =
       let k = same_parts r.0 r.1 r.2 in
-      absurd (r.3.1 (subst (IsInGroup (length roster.clients) (length roster.servers)) (sym k.0) signed.within))
+      absurd (r.3.1 (subst (IsOfRoster roster) (sym k.0) signed.within))
   refused_for_memory (refusals.Signature server) r = let k = same_parts r.0 r.1 r.2 in not_first r.0 r.1 server k.0 k.1 r.3.2
   refused_for_memory refusals.NoMemory r = refl
 

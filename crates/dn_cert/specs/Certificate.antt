@@ -22,9 +22,14 @@ pub record CertificateView : Type 0 where
   pub body : Body
   pub bytes : List ℕ
 
--- a body as a group with so many clients and servers may have it
-pub record IsInGroup (clients servers : ℕ) (body : Body) : Type 0 where
-  pub digests : length body.digests ≡ servers
+-- how many digests a body has in a group of so many servers: one for each, and none where it is thin
+abbrev pub digests_due : ℕ → Body → ℕ
+digests_due servers body = if body.thin then 0 else servers
+
+-- a body as a group of this version with so many clients and servers may have it
+pub record IsInGroup (version clients servers : ℕ) (body : Body) : Type 0 where
+  pub of_version : body.version ≡ version
+  pub digests : length body.digests ≡ digests_due servers body
   pub listed : All (λ l. (l.client.0 < clients) × (l.server.0 < servers)) body.listed
   pub after : body.prev.0 < body.r.0
 
@@ -32,23 +37,24 @@ pub record IsInGroup (clients servers : ℕ) (body : Body) : Type 0 where
 abbrev pub IsSignedAt : List ℕ → List (List ℕ) → Body → List (List ℕ) → ℕ → Type 0
 IsSignedAt digest keys body signatures j = SignsBody digest (slice_index_or keys j []) j body (slice_index_or signatures j [])
 
--- A body and signatures that a payload can carry, in the group with this digest, so many clients and these keys of its servers: the body is
--- one of the group's, and each server signed it.
-pub record IsSigned (digest : List ℕ) (clients : ℕ) (keys : List (List ℕ)) (body : Body) (signatures : List (List ℕ)) : Type 0 where
+-- A body and signatures that a payload can carry, in the group with this digest, of this version, with so many clients and these keys of its
+-- servers: the body is one of the group's, and each server signed it.
+pub record IsSigned (digest : List ℕ) (version clients : ℕ) (keys : List (List ℕ)) (body : Body) (signatures : List (List ℕ)) : Type 0 where
   pub fits : IsPayload (payloads.Certificate body signatures)
   pub each : length signatures ≡ length keys
-  pub within : IsInGroup clients (length keys) body
+  pub within : IsInGroup version clients (length keys) body
   pub signed : (j : ℕ) → j < length keys → IsSignedAt digest keys body signatures j
 
--- a certificate of its body
+-- a certificate of its body, whose version is that of the group
 pub record IsCertificate (c : CertificateView) : Type 0 where
   pub signatures : List (List ℕ)
-  pub signed : IsSigned c.digest c.clients c.keys c.body signatures
+  pub signed : IsSigned c.digest c.body.version c.clients c.keys c.body signatures
   pub spelled : c.bytes ≡ payload_bytes (payloads.Certificate c.body signatures)
 
 -- the group is that of this roster
 pub record IsUnder (roster : RosterView) (c : CertificateView) : Type 0 where
   pub digest : c.digest ≡ digest_of roster
+  pub version : c.body.version ≡ roster.version
   pub clients : c.clients ≡ length roster.clients
   pub keys : c.keys ≡ roster.servers
 
@@ -56,6 +62,10 @@ pub record IsUnder (roster : RosterView) (c : CertificateView) : Type 0 where
 abbrev pub certificate_of : List ℕ → Result (Body × List (List ℕ)) RecordFault
 certificate_of bytes =
     read_byte (start bytes) >>= λ tag. if tag.0 == 3 then whole certificate tag.1 else Err (faults.Kind tag.0)
+
+-- a body as the group of this roster may have it
+abbrev pub IsOfRoster : RosterView → Body → Type 0
+IsOfRoster roster body = IsInGroup roster.version (length roster.clients) (length roster.servers) body
 
 -- the server is the first whose signature of the body doesn't verify
 pub record IsFirstUnsigned (roster : RosterView) (body : Body) (signatures : List (List ℕ)) (server : ServerId) : Type 0 where
@@ -81,10 +91,10 @@ IsUnsigned roster body signatures (refusals.Missing server) =
     (length signatures ≢ length roster.servers) × (server.0 ≡ min (length signatures) (length roster.servers))
 IsUnsigned roster body signatures (refusals.Body server) =
     (length signatures ≡ length roster.servers)
-    × (¬ IsInGroup (length roster.clients) (length roster.servers) body) × (server.0 ≡ 0)
+    × (¬ IsOfRoster roster body) × (server.0 ≡ 0)
 IsUnsigned roster body signatures (refusals.Signature server) =
     (length signatures ≡ length roster.servers)
-    × IsInGroup (length roster.clients) (length roster.servers) body
+    × IsOfRoster roster body
     × IsFirstUnsigned roster body signatures server
 IsUnsigned roster body signatures refusals.NoMemory = ⊥
 

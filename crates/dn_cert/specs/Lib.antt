@@ -1,5 +1,6 @@
 pub mod Trim
 pub mod Signed
 pub mod Certificate
+pub mod Floor
 pub mod Chain
 pub mod Evidence

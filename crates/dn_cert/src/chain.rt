@@ -1,9 +1,9 @@
 ghost use Rattle.std.specs.Prelude.{◌≡◌, ◌≢◌, ◌≤◌, [], length, Contains, IfOk, IfErr, OnOk, OnErr, MatchOption, MatchResult, ⊤};
-ghost use Rattle.dn_layout.specs.Layout.{bits_of};
-ghost use Rattle.dn_cert.specs.Chain.{bodies, Holds, IsLayoutAfter, CanFollow, IsUnheld, with_held, IsChain, IsLatestBelow};
+ghost use Rattle.dn_cert.specs.Chain.{bodies, Holds, IsLayoutAfter, bits_due, count_at, CanFollow, IsUnheld, with_held, IsChain, IsLatestBelow};
 
 use crate::certificate::Certificate;
-use crate::held::{Held, count_below, find};
+use crate::floor::is_due_thin;
+use crate::held::{Held, bits_due, count_below, find, layout_after};
 use crate::hold_fault::HoldFault;
 use dn_layout::Layout;
 use dn_memory::NoMemory;
@@ -49,7 +49,8 @@ impl Chain {
 
     /// The layout on which a body's round ran, if the body can follow.
     fn layout_before(&self, body: &Body) -> Result<&Layout, HoldFault>
-        ensures follows { IfOk result (λ l. CanFollow self.now body.now × IsLayoutAfter self.now body.now.prev.0 l.now × (length body.now.out ≡ bits_of l.now)) }
+        requires { length body.now.listed ≤ 512 }
+        ensures follows { IfOk result (λ l. CanFollow self.now body.now × IsLayoutAfter self.now body.now.prev.0 l.now × (length body.now.out ≡ bits_due l.now body.now)) }
         ensures refused { IfErr result (IsUnheld self.now body.now) }
     {
         if find(&self.held, body.r).is_some() {
@@ -58,7 +59,11 @@ impl Chain {
         let Some(before) = self.layout(body.prev) else {
             return Err(HoldFault::NoPrev { prev: body.prev });
         };
-        let (have, need) = (body.out.len(), before.bits());
+        let (count, last) = (body.listed.get().len() as u32, self.count(body.prev));
+        if body.thin != is_due_thin(body.version, count, last) {
+            return Err(HoldFault::Floor { count, last });
+        }
+        let (have, need) = (body.out.len(), bits_due(before, body));
         if have != need {
             return Err(HoldFault::Length { have, need });
         }
@@ -78,7 +83,7 @@ impl Chain {
             Ok(before) => before,
             Err(fault) => return Err(fault),
         };
-        let layout = before.next(alloc, &c.body().out)?;
+        let layout = layout_after(alloc, before, c.body())?;
         let at = count_below(&self.held, c.body().r);
         let held = Held {
             certificate: c,
@@ -107,6 +112,18 @@ impl Chain {
         match find(&self.held, r) {
             Some(held) => Some(held.certificate.body()),
             None => None,
+        }
+    }
+
+    /// How many clients counted in round `r`; 0 for round 0, and for a round that isn't held.
+    pub fn count(&self, r: Round) -> u32
+        ensures count { result ≡ count_at self.now r.0 }
+        ensures few { result ≤ 512 }
+        ensures chain { IsChain self.now }
+    {
+        match find(&self.held, r) {
+            Some(held) => held.certificate.body().listed.get().len() as u32,
+            None => 0,
         }
     }
 

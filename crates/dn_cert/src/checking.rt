@@ -4,7 +4,7 @@ ghost use Rattle.dn_records.specs.Records.{IsPayload, IsBody, payload_bytes, sta
 ghost use Rattle.dn_records.specs.declared.body.Body.{Body};
 ghost use Rattle.dn_records.specs.declared.payload.Payload.TheVariants as payloads;
 ghost use Rattle.dn_roster.specs.Roster.{digest_of};
-ghost use Rattle.dn_cert.specs.Certificate.{IsCertificate, IsUnder, IsInGroup, IsSigned, IsRefused, FirstUnsigned, certificate_of};
+ghost use Rattle.dn_cert.specs.Certificate.{IsCertificate, IsUnder, IsOfRoster, digests_due, IsSigned, IsRefused, FirstUnsigned, certificate_of};
 
 use crate::certificate::Certificate;
 use crate::fault::CertFault;
@@ -40,13 +40,21 @@ fn parts(alloc: Global, bytes: &[u8]) -> Result<(Body, ByteLists), RecordFault>
     }
 }
 
+/// How many digests a body has in a group of so many servers.
+fn digests_due(servers: u32, body: &Body) -> usize
+    ensures { result ≡ digests_due servers body.now }
+{
+    if body.thin { 0 } else { servers as usize }
+}
+
 /// Whether a body is one that the roster's group may have.
 fn is_in_group(roster: &Roster, body: &Body) -> bool
-    ensures { IsTrue result ↔ IsInGroup (length roster.now.clients) (length roster.now.servers) body.now }
+    ensures { IsTrue result ↔ IsOfRoster roster.now body.now }
 {
     let clients = roster.clients();
     let servers = roster.servers();
-    body.digests.get().len() == servers as usize
+    body.version == roster.version()
+        && body.digests.get().len() == digests_due(servers, body)
         && body.prev < body.r
         && body
             .listed
@@ -116,7 +124,7 @@ pub fn check(alloc: Global, roster: &Roster, bytes: &[u8]) -> Result<Certificate
     ensures certificate { IfOk result (λ c. IsCertificate c × IsUnder roster.now c × (c.bytes ≡ bytes.now)) }
     ensures refused { IfErr result (IsRefused roster.now bytes.now) }
     // What every server signed is accepted, but for want of memory.
-    ensures signed { (body : Body) → (signatures : List (List ℕ)) → IsSigned (digest_of roster.now) (length roster.now.clients) roster.now.servers body signatures
+    ensures signed { (body : Body) → (signatures : List (List ℕ)) → IsSigned (digest_of roster.now) roster.now.version (length roster.now.clients) roster.now.servers body signatures
         → bytes.now ≡ payload_bytes (payloads.Certificate body signatures)
         → MatchResult result (λ c. c.body ≡ body) (λ f. f ≡ CertFault.NoMemory) }
 {

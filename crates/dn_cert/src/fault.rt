@@ -13,8 +13,8 @@ pub enum CertFault {
     Form(RecordFault),
     /// The signatures aren't as many as the servers: the first server without one, or the number of servers where there are more.
     Missing { server: ServerId },
-    /// The body isn't one of this group: its digests aren't as many as the servers, a listed client or server isn't in the roster, or
-    /// its prev isn't below its round. The server is 0.
+    /// The body isn't one of this group: its version isn't the roster's, its digests aren't as many as the servers, or none where it is
+    /// thin, a listed client or server isn't in the roster, or its prev isn't below its round. The server is 0.
     Body { server: ServerId },
     /// The first server whose signature doesn't verify.
     Signature { server: ServerId },

@@ -1,16 +1,39 @@
-ghost use Rattle.std.specs.Prelude.{◌≡◌, ◌≢◌, ◌<◌, ◌≤◌, map, length, All, Contains, IfSome, IfNone};
+ghost use Rattle.std.specs.Prelude.{◌≡◌, ◌≢◌, ◌<◌, ◌≤◌, map, length, All, Contains, IfOk, IfSome, IfNone};
 ghost use Rattle.std.specs.List.{AllWithin};
 ghost use Rattle.std.specs.List.Sorted.{IsStrictlyIncreasing};
+ghost use Rattle.dn_cert.specs.Chain.{bits_due, layout_after};
 
 use crate::certificate::Certificate;
 use dn_layout::Layout;
+use dn_memory::NoMemory;
+use dn_records::Body;
 use dn_wire::Round;
+use std::alloc::Global;
 
 /// A certificate that a chain holds, and the layout after its round.
 #[derive(Drop)]
 pub struct Held {
     pub certificate: Certificate,
     pub layout: Layout,
+}
+
+/// How many bits the output of a body has that comes after this layout.
+pub fn bits_due(before: &Layout, body: &Body) -> u32
+    ensures { result ≡ bits_due before.now body.now }
+{
+    if body.thin { 0 } else { before.bits() }
+}
+
+/// The layout after a body that comes after this one.
+pub fn layout_after(alloc: Global, before: &Layout, body: &Body) -> Result<Layout, NoMemory>
+    requires { length body.now.out ≡ bits_due before.now body.now }
+    ensures { IfOk result (λ l. l ≡ layout_after before.now body.now) }
+{
+    if body.thin {
+        before.copy(alloc)
+    } else {
+        before.next(alloc, &body.out)
+    }
 }
 
 /// How many of them are of rounds below `r`.

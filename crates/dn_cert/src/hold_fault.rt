@@ -12,7 +12,9 @@ pub enum HoldFault {
     Known { r: Round },
     /// No certificate of its prev is held.
     NoPrev { prev: Round },
-    /// Its output has `have` bits, and the layout after its prev `need`.
+    /// It is thin and isn't due to be, or isn't thin and is due to be: `count` clients count in it, and `last` in the round of its prev.
+    Floor { count: u32, last: u32 },
+    /// Its output has `have` bits, and `need` are due: those of the layout after its prev, and none where it is thin.
     Length { have: u32, need: u32 },
     NoMemory,
 }

@@ -3,7 +3,7 @@
 //!
 //! `trim` makes one list of the inventories of all servers. `check` reads a payload as a certificate under a roster: a body that
 //! every server signed. A `Chain` holds certificates by their rounds, each after that of its prev, with the layout after each
-//! round. `Rules` says when an accusation holds and when a rebuttal is good. `specs/` has a definition for each of these, and
+//! round, and asks each to be thin exactly where the floor of `is_due_thin` says so. `Rules` says when an accusation holds and when a rebuttal is good. `specs/` has a definition for each of these, and
 //! the laws are public functions.
 #![tactic(auto)]
 
@@ -13,6 +13,7 @@ mod chain_laws;
 mod checking;
 mod entry;
 mod fault;
+mod floor;
 mod held;
 mod hold_fault;
 mod making;
@@ -23,10 +24,11 @@ mod trimming;
 
 pub use certificate::Certificate;
 pub use chain::Chain;
-pub use chain_laws::{chains_agree, layout_is_one};
+pub use chain_laws::{chains_agree, counts_are_of_bodies, layout_is_one, thin_rounds_give_nothing};
 pub use checking::check;
 pub use entry::entry_verifies;
 pub use fault::CertFault;
+pub use floor::is_due_thin;
 pub use hold_fault::HoldFault;
 pub use making::make_body;
 pub use rules::{Invalid, Rules, Valid};

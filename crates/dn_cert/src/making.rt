@@ -1,4 +1,4 @@
-ghost use Rattle.std.specs.Prelude.{◌≡◌, IfOk};
+ghost use Rattle.std.specs.Prelude.{◌≡◌, [], IfOk, IsTrue};
 
 use dn_bits::Bits;
 use dn_memory::NoMemory;
@@ -7,23 +7,27 @@ use dn_roster::Roster;
 use dn_wire::Round;
 use std::alloc::Global;
 
-/// The body of round `r` after round `prev`, of the roster's version, which is 1. `digests` are those of the servers' ciphertexts, by
-/// server, and `out` is the output.
+/// The body of round `r` after round `prev`, of the roster's version. `digests` are those of the servers' ciphertexts, by server, and
+/// `out` is the output; a thin body has neither, and none of version 1 is thin.
 pub fn make_body(
     alloc: Global,
-    _roster: &Roster,
+    roster: &Roster,
     r: Round,
     prev: Round,
     listed: &[Listed],
     digests: &[[u8; 32]],
     out: &Bits,
+    thin: bool,
 ) -> Result<Body, NoMemory>
-    ensures { IfOk result (λ b. b ≡ record { version = 1; r = r; prev = prev; listed = listed.now; digests = digests.now; out = out.now }) }
+    requires empty { IsTrue thin → (digests.now ≡ []) × (out.now ≡ []) }
+    requires version { IsTrue thin → roster.now.version ≡ 2 }
+    ensures { IfOk result (λ b. b ≡ record { version = roster.now.version; r = r; prev = prev; thin = thin; listed = listed.now; digests = digests.now; out = out.now }) }
 {
     Ok(Body {
-        version: 1,
+        version: roster.version(),
         r,
         prev,
+        thin,
         listed: Rows::of(Vec::from_slice(alloc, listed)?),
         digests: Digests::of(Vec::from_slice(alloc, digests)?),
         out: out.copy()?,

@@ -20,6 +20,7 @@ const NINE: &[u8] = &[0, 0, 0, 9, 0, 0];
 
 fn group(alloc: Global) -> Result<Dealt, Fail> {
     let spec = GroupSpec {
+        version: 1,
         clients: 3,
         servers: 2,
         ots: 2,

@@ -63,6 +63,7 @@ fn no_inventories_list_nobody(rt: HostRuntime) -> Result<(), Fail> {
 #[test]
 fn a_body_has_its_fields(rt: HostRuntime) -> Result<(), Fail> {
     let roster = Roster::make(
+        1,
         2,
         5,
         5,
@@ -85,8 +86,12 @@ fn a_body_has_its_fields(rt: HostRuntime) -> Result<(), Fail> {
         &[row],
         &[[6; 32]],
         &out,
+        false,
     )?;
-    assert_eq!(rt; (body.version, body.r, body.prev), (1, Round(9), Round(3)));
+    assert_eq!(rt;
+        (body.version, body.r, body.prev, body.thin),
+        (1, Round(9), Round(3), false)
+    );
     assert_eq!(rt; body.listed.get(), [row].as_slice());
     assert_eq!(rt; body.digests.get(), [[6; 32]].as_slice());
     assert!(rt; body.out.equals(&out));

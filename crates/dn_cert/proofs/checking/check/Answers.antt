@@ -1,5 +1,5 @@
 use Rattle.std.proofs.Common.{◌≡◌, ◌≢◌, sym, ap, subst, ◌∙◌, length, min, rules}
-use Rattle.dn_cert.specs.Certificate.{IsInGroup, IsRefused, FirstUnsigned}
+use Rattle.dn_cert.specs.Certificate.{IsOfRoster, IsRefused, FirstUnsigned}
 use Rattle.dn_cert.proofs.RefusalLemmas.{refused_for_memory, refused_for_form, same_parts, not_first}
 use Rattle.dn_cert.proofs.checking.check.Goals as goal
 
@@ -23,9 +23,9 @@ returns-then-count-servers-clause-signed c = λ b s k e.
 
 pub returns-then-not-is_in_group-clause-signed : goal.returns-then-not-is_in_group-clause-signed
 returns-then-not-is_in_group-clause-signed c = λ b s k e.
-    let out : ¬ IsInGroup (length c.args.roster.now.clients) (length c.args.roster.now.servers) c.in-Ok.parts.0 = search rules in
+    let out : ¬ IsOfRoster c.args.roster.now c.in-Ok.parts.0 = search rules in
     let parts = same_parts c.args.roster.now c.args.bytes.now b s k e c.in-Ok.parts.0 c.in-Ok.parts.1 c.in-Ok.ensures.exact in
-    absurd (out (subst (IsInGroup (length c.args.roster.now.clients) (length c.args.roster.now.servers)) (sym parts.0) k.within))
+    absurd (out (subst (IsOfRoster c.args.roster.now) (sym parts.0) k.within))
 
 pub returns-in-Some-clause-signed : goal.returns-in-Some-clause-signed
 returns-in-Some-clause-signed c = λ b s k e.
