@@ -12,6 +12,9 @@ use std::alloc::Global;
 fn within_limits(group: GroupSpec) -> Option<GroupSpec>
     ensures { IfSome result IsWithinLimits }
 {
+    if group.version < 1 || 2 < group.version {
+        return None;
+    }
     if group.clients < 1 || 512 < group.clients || group.servers < 1 || 16 < group.servers {
         return None;
     }

@@ -25,12 +25,13 @@ where
         .context(format_args!("reading {word:?}"))
 }
 
-/// The group that the words tell: its numbers of clients and servers, its type codes, and the number that its seed ends
+/// The group of version 1 that the words tell: its numbers of clients and servers, its type codes, and the number that its seed ends
 /// with, in eight bytes with the high one first.
 fn group(words: &[String]) -> Result<GroupSpec> {
     let mut seed = [0; 32];
     seed[24..].copy_from_slice(&number::<u64>(words, 6)?.to_be_bytes());
     Ok(GroupSpec {
+        version: 1,
         clients: number(words, 1)?,
         servers: number(words, 2)?,
         ots: number(words, 3)?,

@@ -1,6 +1,8 @@
-// A line `roster N M OTS CLMS SLMS seed SEED` deals a group. The lines under it that begin with bytes are `BYTES ANSWER`:
+// A line `roster N M OTS CLMS SLMS seed SEED` deals a group of version 1, and `roster2 ..` one of version 2. The lines under it that begin with bytes are `BYTES ANSWER`:
 // what checking the bytes as a certificate of that group answers. The answer is `ok`, or the first refusal: `Form` with
 // the record's fault, `Missing SERVER`, `Body SERVER`, `Signature SERVER`.
+
+ghost use Rattle.std.specs.Prelude.{◌≤◌};
 
 use crate::fields::{array_at, bytes_at, end_at, number_at, text};
 use crate::record::fault_of;
@@ -11,11 +13,13 @@ use dn_roster::Roster;
 use dn_wire::ServerId;
 use std::alloc::Global;
 
-/// The roster of the group of a line.
-pub fn dealt(alloc: Global, fields: &[&str]) -> Result<Roster> {
+/// The roster of the group of a line, which has this version.
+pub fn dealt(alloc: Global, version: u8, fields: &[&str]) -> Result<Roster>
+    requires { (1 ≤ version) × (version ≤ 2) }
+{
     ensure!(text(fields, 5)? == "seed", "no seed");
     end_at(fields, 7)?;
-    roster_of(alloc, array_at(fields, 6)?, fields)
+    roster_of(alloc, version, array_at(fields, 6)?, fields)
 }
 
 /// The refusal that an answer spells, or none for `ok`.

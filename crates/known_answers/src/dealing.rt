@@ -12,6 +12,7 @@ use std::alloc::Global;
 /// A group of this seed with so many servers. What is dealt to a single member depends on nothing else.
 fn group_of(seed: [u8; 32], servers: u32) -> GroupSpec {
     GroupSpec {
+        version: 1,
         clients: 1,
         servers,
         ots: 1,

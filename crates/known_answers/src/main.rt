@@ -44,9 +44,10 @@ fn passes(alloc: Global, group: &mut Option<Roster>, line: &str) -> Result<bool>
         "key" | "sig" | "no" | "lms" => lms::passes(alloc, word, rest),
         "statement" | "envelope" | "payload" => record::passes(alloc, word, rest),
         "dealt" => dealing::passes(alloc, rest),
-        "roster" => {
+        "roster" | "roster2" => {
             *group = None;
-            *group = Some(certificate::dealt(alloc, rest)?);
+            let version = if *word == "roster" { 1 } else { 2 };
+            *group = Some(certificate::dealt(alloc, version, rest)?);
             Ok(true)
         }
         _ => match group {

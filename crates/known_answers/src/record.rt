@@ -1,6 +1,6 @@
 // Lines `statement V BYTES ANSWER`, `envelope V BYTES ANSWER` and `payload V BYTES ANSWER`: what reading the bytes
-// answers, where a body has version V. The answer is `ok`, and then writing gives the same bytes again, or the first
-// fault with its numbers: `Cut AT`, `Kind BYTE`, `Over AT LIMIT`, `Shape AT`, `Trailing AT`.
+// answers in a group of version V, 1 or 2. Bodies of both versions are read in both. The answer is `ok`, and then writing
+// gives the same bytes again, or the first fault with its numbers: `Cut AT`, `Kind BYTE`, `Over AT LIMIT`, `Shape AT`, `Trailing AT`.
 
 use crate::fields::{bytes_at, end_at, number_at, text};
 use anyhow::{Result, bail, ensure};
@@ -63,7 +63,10 @@ pub fn fault_of(answer: &[&str]) -> Result<Option<RecordFault>> {
 /// Whether reading the bytes answers as the line says.
 pub fn passes(alloc: Global, word: &str, fields: &[&str]) -> Result<bool> {
     let version = text(fields, 0)?;
-    ensure!(version == "1", "bodies of version {version} aren't built");
+    ensure!(
+        version == "1" || version == "2",
+        "no such version: {version}"
+    );
     let bytes = bytes_at(alloc, fields, 1)?;
     let again = match word {
         "statement" => statement_again(alloc, &bytes),
