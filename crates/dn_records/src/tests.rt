@@ -39,6 +39,30 @@ const SIGN: &[u8] = &[
     137, 171, 75, 102, 0, 0, 0, 0, 0, 0, 0, 3, 0,
 ];
 
+const SIGN_2: &[u8] = &[
+    6, 2, 0, 0, 2, 0, 0, 0, 2, 0, 0, 0, 0, 0, 0, 0, 0, 3, 0, 0, 0, 0, 1, 0, 0, 0, 3, 0, 0, 0, 1,
+    202, 151, 129, 18, 202, 27, 189, 202, 250, 194, 49, 179, 154, 35, 220, 77, 167, 134, 239, 248,
+    20, 124, 78, 114, 185, 128, 119, 133, 175, 238, 72, 187, 0, 0, 0, 2, 46, 125, 44, 3, 169, 80,
+    122, 226, 101, 236, 245, 181, 53, 104, 133, 165, 51, 147, 162, 2, 157, 36, 19, 148, 153, 114,
+    101, 161, 162, 90, 239, 198, 24, 172, 62, 115, 67, 240, 22, 137, 12, 81, 14, 147, 249, 53, 38,
+    17, 105, 217, 227, 245, 101, 67, 100, 41, 131, 15, 175, 9, 52, 244, 248, 228, 0, 0, 0, 3, 96,
+];
+
+// A thin body, and one with a digest and an output, which no round has.
+const SIGN_THIN: &[u8] = &[
+    6, 2, 0, 0, 0, 0, 0, 0, 0, 9, 0, 0, 0, 0, 0, 0, 0, 8, 1, 0, 0, 0, 2, 0, 0, 0, 0, 0, 0, 0, 0,
+    202, 151, 129, 18, 202, 27, 189, 202, 250, 194, 49, 179, 154, 35, 220, 77, 167, 134, 239, 248,
+    20, 124, 78, 114, 185, 128, 119, 133, 175, 238, 72, 187, 0, 0, 0, 5, 0, 0, 0, 1, 62, 35, 232,
+    22, 0, 57, 89, 74, 51, 137, 79, 101, 100, 225, 177, 52, 139, 189, 122, 0, 136, 212, 44, 74,
+    203, 115, 238, 174, 213, 156, 0, 157, 0, 0, 0, 0, 0, 0, 0, 0,
+];
+
+const SIGN_THIN_WITH_MORE: &[u8] = &[
+    6, 2, 0, 0, 0, 0, 0, 0, 0, 9, 0, 0, 0, 0, 0, 0, 0, 8, 1, 0, 0, 0, 0, 0, 0, 0, 1, 46, 125, 44,
+    3, 169, 80, 122, 226, 101, 236, 245, 181, 53, 104, 133, 165, 51, 147, 162, 2, 157, 36, 19, 148,
+    153, 114, 101, 161, 162, 90, 239, 198, 0, 0, 0, 9, 255, 128,
+];
+
 const PAD_BITS: &[u8] = &[7, 0, 0, 0, 0, 0, 0, 0, 1, 0, 0, 16, 2, 0, 0, 0, 0];
 
 const SHOWN: &[u8] = &[
@@ -77,6 +101,15 @@ const CERTIFICATE: &[u8] = &[
     0, 0, 1, 0, 0, 0, 0, 0, 0, 0, 0, 0, 0, 0, 0, 0, 0, 0, 0, 0, 0, 0, 0, 0, 0, 0, 0, 0, 0, 0, 0, 0,
     0, 0, 0, 0, 0, 0, 1, 0, 0, 0, 0, 0, 0, 0, 0, 0, 0, 0, 0, 0, 0, 0, 0, 0, 0, 0, 0, 0, 0, 0, 0, 0,
     0, 0, 0, 0, 0, 0, 0, 0, 0, 0, 0, 0, 0, 0, 0,
+];
+
+const THIN_CERTIFICATE: &[u8] = &[
+    3, 0, 0, 0, 110, 2, 0, 0, 0, 0, 0, 0, 0, 9, 0, 0, 0, 0, 0, 0, 0, 8, 1, 0, 0, 0, 2, 0, 0, 0, 0,
+    0, 0, 0, 0, 202, 151, 129, 18, 202, 27, 189, 202, 250, 194, 49, 179, 154, 35, 220, 77, 167,
+    134, 239, 248, 20, 124, 78, 114, 185, 128, 119, 133, 175, 238, 72, 187, 0, 0, 0, 5, 0, 0, 0, 1,
+    62, 35, 232, 22, 0, 57, 89, 74, 51, 137, 79, 101, 100, 225, 177, 52, 139, 189, 122, 0, 136,
+    212, 44, 74, 203, 115, 238, 174, 213, 156, 0, 157, 0, 0, 0, 0, 0, 0, 0, 0, 0, 0, 0, 1, 0, 2, 1,
+    2,
 ];
 
 const CHALLENGE: &[u8] = &[4, 0, 0, 0, 0, 0, 0, 0, 3, 0, 0, 0, 2, 0, 0, 0, 0];
@@ -148,18 +181,78 @@ fn faults(rt: HostRuntime) {
     );
 }
 
+/// What reading answers to a statement with another byte at a place.
+fn with_byte(
+    alloc: Global,
+    bytes: &[u8],
+    at: usize,
+    byte: u8,
+) -> Result<Option<RecordFault>, Fail> {
+    let mut other = Vec::from_slice(alloc, bytes)?;
+    *other.get_mut(at).ok_or("no such place")? = byte;
+    Ok(decode(alloc, &other).err())
+}
+
+/// The version of the body that a statement signs, and whether the body is thin.
+fn version_of(alloc: Global, bytes: &[u8]) -> Result<(u8, bool), Fail> {
+    match decode(alloc, bytes) {
+        Ok(Statement::Sign(body)) => Ok((body.version, body.thin)),
+        _ => Err(Fail::from("no body")),
+    }
+}
+
+#[test]
+fn versions_and_thin_bytes(rt: HostRuntime) -> Result<(), Fail> {
+    let alloc = rt.alloc();
+    let answers = [
+        with_byte(alloc, SIGN_THIN, 1, 0)?,
+        with_byte(alloc, SIGN_THIN, 1, 3)?,
+        with_byte(alloc, SIGN_THIN, 18, 2)?,
+        with_byte(alloc, SIGN_THIN, 18, 0)?,
+        // In version 1 the thin byte is the first of the number of clients.
+        with_byte(alloc, SIGN_THIN, 1, 1)?,
+    ];
+    let wanted = [
+        Some(RecordFault::Shape { at: 1 }),
+        Some(RecordFault::Shape { at: 1 }),
+        Some(RecordFault::Shape { at: 18 }),
+        None,
+        Some(RecordFault::Over { at: 18, limit: 512 }),
+    ];
+    assert_eq!(rt; answers, wanted);
+    let told = [
+        version_of(alloc, SIGN)?,
+        version_of(alloc, SIGN_2)?,
+        version_of(alloc, SIGN_THIN)?,
+    ];
+    assert_eq!(rt; told, [(1, false), (2, false), (2, true)]);
+    Ok(())
+}
+
 #[test]
 fn read_and_written(rt: HostRuntime) {
     for bytes in [
-        SUBMISSION, RECEIPT, INVENTORY, COMMIT, REVEAL, SIGN, PAD_BITS, SHOWN, ACCUSATION,
-        REBUTTAL, CONCEDE,
+        SUBMISSION,
+        RECEIPT,
+        INVENTORY,
+        COMMIT,
+        REVEAL,
+        SIGN,
+        SIGN_2,
+        SIGN_THIN,
+        SIGN_THIN_WITH_MORE,
+        PAD_BITS,
+        SHOWN,
+        ACCUSATION,
+        REBUTTAL,
+        CONCEDE,
     ] {
         assert_eq!(rt; statement_again(rt.alloc(), bytes), Ok(true), "{bytes:?}");
     }
     for bytes in [CLIENTS_ENVELOPE, SERVERS_ENVELOPE, SLOTS_ENVELOPE] {
         assert_eq!(rt; envelope_again(rt.alloc(), bytes), Ok(true), "{bytes:?}");
     }
-    for bytes in [CIPHER, PLAIN, CERTIFICATE, CHALLENGE] {
+    for bytes in [CIPHER, PLAIN, CERTIFICATE, THIN_CERTIFICATE, CHALLENGE] {
         assert_eq!(rt; payload_again(rt.alloc(), bytes), Ok(true), "{bytes:?}");
     }
     assert_eq!(rt; body_again(rt.alloc(), &SIGN[1..]), Ok(true));
