@@ -100,12 +100,40 @@ fn small_roster(alloc: Global, version: u8) -> Result<Roster, NoMemory>
 }
 
 #[test]
+fn versions_have_digests_of_their_own(rt: HostRuntime) -> Result<(), Fail> {
+    let alloc = rt.alloc();
+    let first = small_roster(alloc, 1)?;
+    let second = small_roster(alloc, 2)?;
+    assert_eq!(rt; [first.version(), second.version()], [1, 2]);
+    assert_eq!(rt;
+        first.digest(),
+        [
+            0x48, 0x8e, 0x30, 0x21, 0xc8, 0x1a, 0xc6, 0x9d, 0xde, 0xe7, 0xe7, 0x6f, 0x76, 0x53,
+            0xdd, 0xc5, 0xfd, 0xa8, 0x68, 0x4f, 0x2d, 0xc9, 0xac, 0x70, 0x78, 0x39, 0x9d, 0xae,
+            0x81, 0xc8, 0xc2, 0xf0,
+        ]
+    );
+    assert_eq!(rt;
+        second.digest(),
+        [
+            0xf3, 0xa9, 0x92, 0x63, 0x4b, 0xc2, 0x72, 0x49, 0x14, 0x9c, 0x2d, 0x63, 0xca, 0xad,
+            0x37, 0x7a, 0x88, 0xdb, 0xee, 0xb4, 0x32, 0x3f, 0x15, 0x01, 0x25, 0x94, 0x2e, 0x46,
+            0xfd, 0x32, 0xde, 0xe7,
+        ]
+    );
+    Ok(())
+}
+
+#[test]
 fn a_roster_has_its_bytes(rt: HostRuntime) -> Result<(), Fail> {
     let alloc = rt.alloc();
     let roster = small_roster(alloc, 1)?;
     let bytes = roster.roster_bytes(alloc).expect(&rt, "memory");
     assert_eq!(rt; bytes.len(), 20 + 3 * 56 + 32);
     assert_eq!(rt; roster.digest(), group_digest(1, &bytes));
+    let second = small_roster(alloc, 2)?;
+    assert!(rt; second.roster_bytes(alloc)? == bytes);
+    assert_eq!(rt; second.digest(), group_digest(2, &bytes));
     let signed = roster
         .signed_bytes(alloc, SignerId::Slot(SlotId(0)), &[7])
         .expect(&rt, "memory");

@@ -31,6 +31,12 @@ const DIGEST: [u8; 32] = [
     0xfb, 0x13, 0xf7, 0xf3, 0xaf, 0x2e, 0xfc, 0x04, 0xdb, 0xb1, 0x58, 0x78, 0x0f, 0xba, 0xa8, 0xc5,
 ];
 
+// That of the same group in version 2.
+const SECOND_DIGEST: [u8; 32] = [
+    0xc3, 0x94, 0xf2, 0xa6, 0x77, 0x62, 0xbe, 0x9e, 0x08, 0x54, 0xd1, 0x57, 0x93, 0x0a, 0x93, 0x09,
+    0xec, 0x13, 0x63, 0x62, 0x8b, 0xbf, 0xfd, 0xfe, 0xda, 0xcf, 0xe3, 0xa8, 0xc4, 0x6e, 0x1f, 0x52,
+];
+
 // The length of an envelope in which a client concedes.
 const LENGTH: usize = 9 + 13 + 4460;
 
@@ -151,6 +157,25 @@ fn envelopes_are_refused_by_their_first_fault(rt: HostRuntime) -> Result<(), Fai
     envelope[9] = 12;
     let kind = refusal(rt.alloc(), &dealt, &envelope);
     assert_eq!(rt; kind, Some(Unopened::Form(RecordFault::Kind { byte: 12 })));
+    Ok(())
+}
+
+#[test]
+fn versions_are_groups_of_their_own(rt: HostRuntime) -> Result<(), Fail> {
+    let dealt = deal(rt.alloc(), &GROUP)?;
+    let second = deal(
+        rt.alloc(),
+        &GroupSpec {
+            version: 2,
+            ..GROUP
+        },
+    )?;
+    assert_eq!(rt; second.roster.version(), 2);
+    assert_eq!(rt; second.roster.digest(), SECOND_DIGEST);
+    let (signer, mut pass) = first_client(rt.alloc(), &dealt)?;
+    let envelope = seal(rt.alloc(), &dealt, &signer, &mut pass, 1).expect(&rt, "leaf");
+    let fault = refusal(rt.alloc(), &second, &envelope);
+    assert_eq!(rt; fault, Some(Unopened::Signature));
     Ok(())
 }
 
