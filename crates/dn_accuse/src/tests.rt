@@ -113,6 +113,19 @@ fn small_roster(alloc: Global) -> Result<Roster, NoMemory> {
     ))
 }
 
+/// The thin body of round 2.
+fn thin_body(alloc: Global) -> Result<Body, NoMemory> {
+    Ok(Body {
+        version: 2,
+        r: Round(2),
+        prev: Round(1),
+        thin: true,
+        listed: Rows::of(Vec::new(alloc)),
+        digests: Digests::of(Vec::new(alloc)),
+        out: Bits::zeros(alloc, 0)?,
+    })
+}
+
 /// The body of round 2 whose output has a 1 at place 100 alone.
 fn body_with_one(alloc: Global) -> Result<Body, NoMemory> {
     let mut out = Bits::zeros(alloc, 520)?;
@@ -128,23 +141,23 @@ fn body_with_one(alloc: Global) -> Result<Body, NoMemory> {
     })
 }
 
-/// What is said of an accusation against that body, where slot 0 has the places 8 to 519 and the other slots are closed.
+/// What is said of an accusation against a body, where slot 0 has the places 8 to 519 and the other slots are closed.
 fn judged(
     alloc: Global,
+    body: &Body,
     who: SignerId,
     r: u64,
     slot: u32,
     k: u32,
 ) -> Result<Result<Valid, Invalid>, Fail> {
     let roster = small_roster(alloc)?;
-    let body = body_with_one(alloc)?;
     let layout = Layout::of(vec![in alloc; 64, 0, 0]?).ok_or("a layout")?;
     let accusation = Statement::Accusation {
         r: Round(r),
         slot: SlotId(slot),
         k,
     };
-    Ok(Judging.valid(&roster, &layout, &body, who, &accusation))
+    Ok(Judging.valid(&roster, &layout, body, who, &accusation))
 }
 
 #[test]
@@ -153,18 +166,36 @@ fn accusations_hold_or_are_refused(rt: HostRuntime) -> Result<(), Fail> {
     let slot_0 = SignerId::Slot(SlotId(0));
     let slot_1 = SignerId::Slot(SlotId(1));
     let client_0 = SignerId::Client(ClientId(0));
+    let body = body_with_one(alloc)?;
     let valid = Valid {
         r: Round(2),
         slot: SlotId(0),
         k: 100,
     };
-    assert_eq!(rt; judged(alloc, slot_0, 2, 0, 100)?, Ok(valid));
-    assert_eq!(rt; judged(alloc, slot_1, 2, 0, 100)?, Err(Invalid::Key));
-    assert_eq!(rt; judged(alloc, client_0, 2, 0, 100)?, Err(Invalid::Key));
-    assert_eq!(rt; judged(alloc, slot_0, 1, 0, 100)?, Err(Invalid::Key));
-    assert_eq!(rt; judged(alloc, slot_0, 2, 0, 7)?, Err(Invalid::Place));
-    assert_eq!(rt; judged(alloc, slot_0, 2, 0, 520)?, Err(Invalid::Place));
-    assert_eq!(rt; judged(alloc, slot_1, 2, 1, 100)?, Err(Invalid::Place));
-    assert_eq!(rt; judged(alloc, slot_0, 2, 0, 101)?, Err(Invalid::Zero));
+    assert_eq!(rt; judged(alloc, &body, slot_0, 2, 0, 100)?, Ok(valid));
+    assert_eq!(rt; judged(alloc, &body, slot_1, 2, 0, 100)?, Err(Invalid::Key));
+    assert_eq!(rt;
+        judged(alloc, &body, client_0, 2, 0, 100)?,
+        Err(Invalid::Key)
+    );
+    assert_eq!(rt; judged(alloc, &body, slot_0, 1, 0, 100)?, Err(Invalid::Key));
+    assert_eq!(rt; judged(alloc, &body, slot_0, 2, 0, 7)?, Err(Invalid::Place));
+    assert_eq!(rt;
+        judged(alloc, &body, slot_0, 2, 0, 520)?,
+        Err(Invalid::Place)
+    );
+    assert_eq!(rt;
+        judged(alloc, &body, slot_1, 2, 1, 100)?,
+        Err(Invalid::Place)
+    );
+    assert_eq!(rt;
+        judged(alloc, &body, slot_0, 2, 0, 101)?,
+        Err(Invalid::Zero)
+    );
+    let thin = thin_body(alloc)?;
+    assert_eq!(rt;
+        judged(alloc, &thin, slot_0, 2, 0, 100)?,
+        Err(Invalid::Zero)
+    );
     Ok(())
 }

@@ -1,4 +1,4 @@
-ghost use Rattle.std.specs.Prelude.{IfOk};
+ghost use Rattle.std.specs.Prelude.{◌≡◌, ◌≤◌, IfOk};
 ghost use Rattle.dn_cert.specs.Trim.{IsInventory};
 
 use crate::{make_body, trim};
@@ -60,18 +60,48 @@ fn no_inventories_list_nobody(rt: HostRuntime) -> Result<(), Fail> {
     Ok(())
 }
 
-#[test]
-fn a_body_has_its_fields(rt: HostRuntime) -> Result<(), Fail> {
-    let roster = Roster::make(
-        1,
+/// The roster of one client and one server, of this version.
+fn small_roster(alloc: Global, version: u8) -> Result<Roster, NoMemory>
+    requires { (1 ≤ version) × (version ≤ 2) }
+    ensures { IfOk result (λ r. r.version ≡ version) }
+{
+    Ok(Roster::make(
+        version,
         2,
         5,
         5,
-        vec![in rt.alloc(); [1; 56]]?,
-        vec![in rt.alloc(); [2; 56]]?,
-        vec![in rt.alloc(); [3; 56]]?,
-        vec![in rt.alloc(); [4; 32]]?,
+        vec![in alloc; [1; 56]]?,
+        vec![in alloc; [2; 56]]?,
+        vec![in alloc; [3; 56]]?,
+        vec![in alloc; [4; 32]]?,
+    ))
+}
+
+#[test]
+fn a_thin_body_has_a_list_alone(rt: HostRuntime) -> Result<(), Fail> {
+    let roster = small_roster(rt.alloc(), 2)?;
+    let none = Bits::zeros(rt.alloc(), 0)?;
+    let body = make_body(
+        rt.alloc(),
+        &roster,
+        Round(2),
+        Round(1),
+        &[],
+        &[],
+        &none,
+        true,
+    )?;
+    assert_eq!(rt;
+        (body.version, body.r, body.prev, body.thin),
+        (2, Round(2), Round(1), true)
     );
+    assert!(rt; body.digests.get().is_empty() && body.out.len() == 0);
+    Ok(())
+}
+
+#[test]
+fn a_body_has_its_fields(rt: HostRuntime) -> Result<(), Fail> {
+    let roster = small_roster(rt.alloc(), 1)?;
     let row = Listed {
         client: ClientId(0),
         server: ServerId(0),
