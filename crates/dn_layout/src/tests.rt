@@ -27,6 +27,9 @@ fn slots_open_on_their_request_bits(rt: HostRuntime) -> Result<(), Fail> {
 fn some_lengths_are_a_layout(rt: HostRuntime) -> Result<(), Fail> {
     let layout = Layout::of(vec![in rt.alloc(); 64, 0, 1024]?).ok_or("a layout")?;
     assert_eq!(rt; (layout.slots(), layout.bits()), (3, 8712));
+    let copy = layout.copy(rt.alloc())?;
+    assert_eq!(rt; (copy.slots(), copy.bits()), (3, 8712));
+    assert_eq!(rt; copy.range(SlotId(2)), Some((520, 8712)));
     assert!(rt; Layout::of(vec![in rt.alloc(); 63]?).is_none());
     Ok(())
 }
