@@ -2,7 +2,7 @@
 use Rattle.std.proofs.Common.{◌≡◌, ℕ, ◌<◌, ◌≤◌, min, List, [], length, sym, ap, ◌∙◌, subst, arith, Option, Some, None, IfSome, length-append}
 use lib.ListN.{get_elem?}
 use Rattle.atomic_table.specs.Table.{Me, Step}
-use Rattle.dn_turns.specs.Logs.{Follows}
+use Rattle.dn_turns.specs.Logs.{Follows, GrowsBelow}
 use Rattle.dn_turns.specs.Rule.{limit, joined, settled, first_some, Settles}
 use Rattle.dn_turns.specs.Turns.{least, IsPass}
 use Rattle.dn_turns.specs.declared.view.View.{View}
@@ -37,6 +37,14 @@ module _ {E B L : Type 0} (list : L → List (ℕ × E)) (base_of : L → B) whe
   pub both_seen : (st : Step (Option L)) (v w : View E B) (m n : At) (r : ℕ) → m ≡ (joined v w, []) → Settles list base_of st m r n → Follows v.numbers v.seen n.0.seen × Follows w.numbers w.seen n.0.seen
   both_seen st v w m n r e told =
       let is : n.0.seen ≡ m.0.seen = ap (λ (x : At). x.0.seen) told.0 in (
-        subst (Follows v.numbers v.seen) (sym is) (told.1 0 (v.numbers, v.seen) (ap (λ (x : At). get_elem? x.0.met 0) e)),
-        subst (Follows w.numbers w.seen) (sym is) (told.1 1 (w.numbers, w.seen) (ap (λ (x : At). get_elem? x.0.met 1) e)),
+        subst (Follows v.numbers v.seen) (sym is) (told.1 0 (v.numbers, v.seen) (ap (λ (x : At). get_elem? x.0.met 0) e)).0,
+        subst (Follows w.numbers w.seen) (sym is) (told.1 1 (w.numbers, w.seen) (ap (λ (x : At). get_elem? x.0.met 1) e)).0,
+      )
+
+  pub both_grow : (st : Step (Option L)) (v w : View E B) (m n : At) (r : ℕ) → m ≡ (joined v w, []) → Settles list base_of st m r n → GrowsBelow v.passes v.seen n.0.seen × GrowsBelow v.passes w.seen n.0.seen
+  both_grow st v w m n r e told =
+      let is : n.0.seen ≡ m.0.seen = ap (λ (x : At). x.0.seen) told.0 in
+      let same : m.0.passes ≡ v.passes = ap (λ (x : At). x.0.passes) e in (
+        subst (λ (x : ℕ × List (ℕ × E)). GrowsBelow x.0 v.seen x.1) (λ i. (same i, sym is i)) (told.1 0 (v.numbers, v.seen) (ap (λ (x : At). get_elem? x.0.met 0) e)).1,
+        subst (λ (x : ℕ × List (ℕ × E)). GrowsBelow x.0 w.seen x.1) (λ i. (same i, sym is i)) (told.1 1 (w.numbers, w.seen) (ap (λ (x : At). get_elem? x.0.met 1) e)).1,
       )

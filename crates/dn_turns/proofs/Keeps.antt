@@ -3,15 +3,16 @@ use Rattle.std.proofs.Common.{◌≡◌, ℕ, zero, suc, ◌+◌, ◌%◌, ◌^�
 use mathlib.Core.Logic.{dite}
 use mathlib.Core.Option.{Option as Maybe, some, some-injective, some-ne-none, none}
 use native.Mathlib.Decide.{dec_le, ℕ_discrete}
+use Rattle.std.proofs.lemmas.Bool.{cases_lt}
 use lib.ListN.{get_elem?}
 use lib.Seq.{set-get_or}
 use Rattle.atomic_table.specs.Table.{State, Me, Step, step, Act, keeps, takes, gives, Valid, rest, carried_after, stepped, opening, Allows, Splits, Joins}
 use Rattle.atomic_table.proofs.Lists.{at_set, at_snoc, set_else, set_again, set_here}
-use Rattle.dn_turns.specs.Logs.{total, times, equal, range, within, Follows, GoesOn}
+use Rattle.dn_turns.specs.Logs.{total, times, equal, range, within, Follows, GoesOn, GrowsBelow}
 use Rattle.dn_turns.specs.Rule.{limit, rest_of, first_of, first_some, is_ticket, view, first_view, without_first, of_first, joined, spent, after_ticket, in_turn, passed_on, settled, holds_ticket, has_turn, over, Fits, IsKept, Tickets, Looks, Passes, Settles}
 use Rattle.dn_turns.specs.declared.view.View.{View}
-use Rattle.dn_turns.proofs.Sums.{total-append, total-set, term_le, terms_le, total_less, total_le, whole, times-append, hit, within_high, within_more, within_less, leb-no, set_over, length-range, times-range}
-use Rattle.dn_turns.proofs.Logs.{whole_log, goes_on, nearer, both_follow}
+use Rattle.dn_turns.proofs.Sums.{total-append, total-set, term_le, terms_le, total_less, total_le, whole, times-append, hit, within_high, within_more, within_less, leb-no, set_over, length-range, times-range, range_below}
+use Rattle.dn_turns.proofs.Logs.{whole_log, goes_on, nearer, both_follow, grows_none, grows_by, at_front}
 
 module _ {E B : Type 0} where
   over_le : (v : View E B) → over v ≤ length v.numbers
@@ -23,7 +24,7 @@ module _ {E B : Type 0} where
 
   -- a view fits a later count of tickets
   more_tickets : (p : ℕ) (b : B) (log : List (ℕ × E)) (t u r : ℕ) (v : View E B) → t ≤ u → Fits p b log t r v → Fits p b log u r v
-  more_tickets p b log t u r v le f = record { limits = f.limits; seen = f.seen; met = f.met; turn = f.turn; full = at v.full f.full; idle = f.idle }
+  more_tickets p b log t u r v le f = record { limits = f.limits; seen = f.seen; met = f.met; below = f.below; grows = f.grows; turn = f.turn; full = at v.full f.full; idle = f.idle }
     where
       at : (o : Option ℕ) → IfSome o (λ n. (limit ≤ n) × (n < t)) → IfSome o (λ n. (limit ≤ n) × (n < u))
       at None h = tt
@@ -105,7 +106,7 @@ module _ {E B : Type 0} where
           go w refl refl refl
               (λ j. omega (arith, no_ticket j v no_tick, ap (λ (x : ℕ). within r x j) m₁))
               (omega (arith, k.bound, not_full v unfull, total-set over s.views id v w at))
-              record { limits = f.limits; seen = f.seen; met = f.met; turn = f.turn; full = (le, omega arith); idle = λ z. absurd (omega arith) },
+              record { limits = f.limits; seen = f.seen; met = f.met; below = f.below; grows = f.grows; turn = f.turn; full = (le, omega arith); idle = λ z. absurd (omega arith) },
         ))
         (λ gt.
         let w : View E B = view v.passes v.base v.numbers (v.drawn + 1) (Some t) v.turn v.seen v.full v.met in
@@ -117,7 +118,7 @@ module _ {E B : Type 0} where
           go w refl refl refl
               (λ j. omega (arith, within_more r t j (omega arith), ap (λ (x : ℕ). within r x j) m₁, ap (λ (x : ℕ). within r x j) m₂))
               (omega arith)
-              record { limits = f.limits; seen = f.seen; met = f.met; turn = subst (λ o. IfSome o (λ g. (g ≡ k.log) × (w.ticket ≡ Some r))) (sym idle) tt; full = subst (λ o. IfSome o (λ n. (limit ≤ n) × (n < t + 1))) (sym unfull) tt; idle = λ z. absurd (omega arith) },
+              record { limits = f.limits; seen = f.seen; met = f.met; below = f.below; grows = f.grows; turn = subst (λ o. IfSome o (λ g. (g ≡ k.log) × (w.ticket ≡ Some r))) (sym idle) tt; full = subst (λ o. IfSome o (λ n. (limit ≤ n) × (n < t + 1))) (sym unfull) tt; idle = λ z. absurd (omega arith) },
         )) in
         let lim : (v.passes ≡ p) × (v.base ≡ Some k.base) = ⊎_elim (λ e. absurd (omega arith)) (λ e. e) f.limits in
         let all_drawn : length v.numbers ≡ v.passes → t ≡ v.drawn = λ all. sym k.tickets ∙ whole (λ u. u.drawn) (λ u. length u.numbers) s.views id v (λ j u e z. (k.fits j u e).idle z) at (k.numbers ∙ sym lim.0 ∙ sym all) in
@@ -200,8 +201,8 @@ module _ {E B : Type 0} where
               h.1,
               same_words s k 1 id m.0 w (set s.homes 0 none) at refl refl refl refl
                   (λ z. absurd (omega (arith, z, term_le has_turn (set s.views id w) id w (set_over s.views id m.0 w at), a_turn w (list h.0) refl)))
-                  record { limits = f.limits; seen = f.seen; met = f.met; turn = (h.2, mine); full = f.full; idle = f.idle },
-              ((λ no. absurd (no mine)), λ _. (h.0, refl, subst (Follows m.0.numbers m.0.seen) (sym h.2) f.seen, lim.1 ∙ ap Some (sym h.3))),
+                  record { limits = f.limits; seen = f.seen; met = f.met; below = f.below; grows = f.grows; turn = (h.2, mine); full = f.full; idle = f.idle },
+              ((λ no. absurd (no mine)), λ _. (h.0, refl, subst (Follows m.0.numbers m.0.seen) (sym h.2) f.seen, lim.1 ∙ ap Some (sym h.3), subst (λ (x : ℕ × List (ℕ × E)). GrowsBelow x.0 m.0.seen x.1) (λ i. (sym lim.0 i, sym h.2 i)) (f.grows live))),
             )
 
     -- after a join: what both had seen is compared, and the count of tickets is found
@@ -216,10 +217,10 @@ module _ {E B : Type 0} where
           tt,
           same_words s k 0 id v w s.homes at refl refl refl refl
               (λ z. k.home (omega (arith, z, total-set has_turn s.views id v w at)))
-              record { limits = f.limits; seen = f.seen; met = λ j q e. absurd (some-ne-none q (sym e)); turn = f.turn; full = f.full; idle = f.idle },
+              record { limits = f.limits; seen = f.seen; met = λ j q e. absurd (some-ne-none q (sym e)); below = f.below; grows = f.grows; turn = f.turn; full = f.full; idle = f.idle },
           (
             refl,
-            (λ j q e. let t = f.met j q e in nearer q.0 v.numbers q.1 v.seen k.log t.0 f.seen t.1),
+            (λ j q e. let t = f.met j q e in (nearer q.0 v.numbers q.1 v.seen k.log t.0 f.seen t.1, λ i x le there. omega (arith, lim.0, t.3 i x le (subst (λ l. get_elem? l i ≡ some x) (sym f.seen.1) (at_front v.seen f.seen.0 i x there))))),
             (λ all. sym k.tickets ∙ whole (λ u. u.drawn) (λ u. length u.numbers) s.views id v (λ j u e z. (k.fits j u e).idle z) at (k.numbers ∙ sym lim.0 ∙ sym all)),
             full v.full f.full,
           ),
@@ -261,10 +262,16 @@ module _ {E B : Type 0} where
         (λ q. subst (Follows ns seen) (sym mine.0 ∙ sym q) fo)
         (λ q. subst (Follows ns seen) (ap (λ x. x ++ q.0 ∷ []) (sym mine.0) ∙ sym q.1) (goes_on ns seen k.log q.0 (omega (arith, part q.0.0, terms_le (λ x. times q.0.0 x.numbers) s.views id j v u ne at e, k.once q.0.0, q.2)) fo))
         grown in
+        let more : (seen : List (ℕ × E)) → GrowsBelow p seen k.log → GrowsBelow p seen (list l) = λ seen le. ⊎_elim
+        (λ q. subst (GrowsBelow p seen) (sym mine.0 ∙ sym q) le)
+        (λ q. subst (GrowsBelow p seen) (ap (λ x. x ++ q.0 ∷ []) (sym mine.0) ∙ sym q.1) (grows_by p seen k.log q.0 (f.below q.0.0 q.2) le))
+        grown in
         record {
           limits = fu.limits;
           seen = on u.numbers u.seen (λ x. omega arith) fu.seen;
-          met = λ i m a. let y = fu.met i m a in (on m.0 m.1 y.2 y.0, y.1, y.2);
+          met = λ i m a. let y = fu.met i m a in (on m.0 m.1 y.2 y.0, y.1, y.2, more m.1 y.3);
+          below = fu.below;
+          grows = λ some_number. more u.seen (fu.grows some_number);
           turn = subst (λ o. IfSome o (λ x. (x ≡ list l) × (u.ticket ≡ Some (r + 1)))) (sym none_there) tt;
           full = fu.full;
           idle = fu.idle;
@@ -273,6 +280,8 @@ module _ {E B : Type 0} where
           limits = f.limits;
           seen = whole_log v.numbers (list l);
           met = λ i m a. absurd (some-ne-none m (sym (subst (λ x. get_elem? x i ≡ some m) settled_is a)));
+          below = f.below;
+          grows = λ _. grows_none p (list l);
           turn = tt;
           full = f.full;
           idle = f.idle;
@@ -353,6 +362,8 @@ module _ {E B : Type 0} where
         limits = inr (refl, refl);
         seen = whole_log (range 0 p) (list l);
         met = λ i m a. absurd (some-ne-none m (sym a));
+        below = λ x some_times. range_below p x some_times;
+        grows = λ _. grows_none p (list l);
         turn = tt;
         full = tt;
         idle = λ _. refl;
@@ -375,6 +386,8 @@ module _ {E B : Type 0} where
           limits = inr lim;
           seen = part w.numbers (λ x. omega (arith, sum x));
           met = λ j q e. absurd (some-ne-none q (sym (subst (λ x. get_elem? x j ≡ some q) settled_is e)));
+          below = λ x some_times. f.below x (omega (arith, sum x, some_times));
+          grows = λ _. f.grows (omega (arith, ap length is));
           turn = f.turn;
           full = f.full;
           idle = λ z. drew;
@@ -383,6 +396,8 @@ module _ {E B : Type 0} where
           limits = inr lim;
           seen = part u.numbers (λ x. omega (arith, sum x));
           met = λ j q e. absurd (some-ne-none q (sym e));
+          below = λ x some_times. f.below x (omega (arith, sum x, some_times));
+          grows = λ _. f.grows (omega (arith, ap length is));
           turn = tt;
           full = tt;
           idle = λ z. refl;
@@ -410,8 +425,8 @@ module _ {E B : Type 0} where
     over_joined a b (Some m) None = omega arith
     over_joined a b (Some m) (Some n) = omega arith
 
-    pub joins : (id : ℕ) (v : View E B) (other : ℕ) (w : View E B) → 0 < length v.numbers → v.ticket ≡ None → v.turn ≡ None → w.ticket ≡ None → w.turn ≡ None → Joins Kept id v other w (joined v w) spent
-    joins id v other w live v₁ v₂ w₁ w₂ s h at apart them =
+    pub joins : (id : ℕ) (v : View E B) (other : ℕ) (w : View E B) → 0 < length v.numbers → 0 < length w.numbers → v.ticket ≡ None → v.turn ≡ None → w.ticket ≡ None → w.turn ≡ None → Joins Kept id v other w (joined v w) spent
+    joins id v other w live too v₁ v₂ w₁ w₂ s h at apart them =
         let j : View E B = joined v w in
         let vs : List (View E B) = set s.views id j in
         let there : get_elem? s.views other ≡ some w = sym (set_else s.views id other j apart) ∙ them in
@@ -426,11 +441,13 @@ module _ {E B : Type 0} where
         (λ gt. let e : j.seen ≡ w.seen = ap (λ b. cond b v.seen w.seen) (leb-no (length w.seen) (length v.seen) (omega arith)) in
         (subst (λ x. Follows (v.numbers ++ w.numbers) x h.log) (sym e) (both_follow v.numbers w.numbers (v.numbers ++ w.numbers) v.seen w.seen h.log sum f.seen g.seen (omega arith)), omega (arith, ap length e), omega (arith, ap length e))) in
         let sees = seen (dec_le (length w.seen) (length v.seen)) in
-        let mets : length v.seen ≤ length j.seen → length w.seen ≤ length j.seen → (i : ℕ) (m : List ℕ × List (ℕ × E)) → get_elem? j.met i ≡ some m → Follows m.0 m.1 h.log × (length m.1 ≤ length j.seen) × ((k : ℕ) → times k m.0 ≤ times k j.numbers) = λ a b. two j v w h.log f.seen g.seen a b (λ k. omega (arith, sum k)) (λ k. omega (arith, sum k)) in
+        let mets : length v.seen ≤ length j.seen → length w.seen ≤ length j.seen → (i : ℕ) (m : List ℕ × List (ℕ × E)) → get_elem? j.met i ≡ some m → Follows m.0 m.1 h.log × (length m.1 ≤ length j.seen) × ((k : ℕ) → times k m.0 ≤ times k j.numbers) × GrowsBelow p m.1 h.log = λ a b. two j v w h.log f.seen g.seen a b (λ k. omega (arith, sum k)) (λ k. omega (arith, sum k)) (f.grows live) (g.grows too) in
         let jf : Fits p h.base h.log (tix s) (srv s) j = record {
           limits = inr lim;
           seen = sees.0;
           met = mets sees.1 sees.2;
+          below = λ k some_times. ⊎_elim (λ (le : times k v.numbers < 1). g.below k (omega (arith, sum k, some_times))) (λ (le : 1 ≤ times k v.numbers). f.below k (omega arith)) (cases_lt (times k v.numbers) 1);
+          grows = λ _ i x le there. f.grows live i x (omega (arith, sees.1, le)) there;
           turn = f.turn;
           full = fulls v.full w.full f.full g.full;
           idle = λ z. absurd (omega (arith, z, length-append v.numbers w.numbers));
@@ -457,17 +474,19 @@ module _ {E B : Type 0} where
           limits = inl refl;
           seen = (h.log, refl, λ i q e. refl);
           met = λ i q e. absurd (some-ne-none q (sym e));
+          below = λ k some_times. absurd (omega (arith, some_times));
+          grows = λ none_there. absurd (omega (arith, none_there));
           turn = tt;
           full = tt;
           idle = λ z. refl;
         }
 
         two : (j v w : View E B) (log : List (ℕ × E)) → Follows v.numbers v.seen log → Follows w.numbers w.seen log → length v.seen ≤ length j.seen → length w.seen ≤ length j.seen
-            → ((k : ℕ) → times k v.numbers ≤ times k j.numbers) → ((k : ℕ) → times k w.numbers ≤ times k j.numbers)
-            → (i : ℕ) (m : List ℕ × List (ℕ × E)) → get_elem? ((v.numbers, v.seen) ∷ (w.numbers, w.seen) ∷ []) i ≡ some m → Follows m.0 m.1 log × (length m.1 ≤ length j.seen) × ((k : ℕ) → times k m.0 ≤ times k j.numbers)
-        two j v w log a b c d x y zero m e = let P : List ℕ × List (ℕ × E) → Type 0 = λ q. Follows q.0 q.1 log × (length q.1 ≤ length j.seen) × ((k : ℕ) → times k q.0 ≤ times k j.numbers) in subst P (some-injective (v.numbers, v.seen) m e) (a, c, x)
-        two j v w log a b c d x y (suc zero) m e = let P : List ℕ × List (ℕ × E) → Type 0 = λ q. Follows q.0 q.1 log × (length q.1 ≤ length j.seen) × ((k : ℕ) → times k q.0 ≤ times k j.numbers) in subst P (some-injective (w.numbers, w.seen) m e) (b, d, y)
-        two j v w log a b c d x y (suc (suc i)) m e = absurd (some-ne-none m (sym e))
+            → ((k : ℕ) → times k v.numbers ≤ times k j.numbers) → ((k : ℕ) → times k w.numbers ≤ times k j.numbers) → GrowsBelow p v.seen log → GrowsBelow p w.seen log
+            → (i : ℕ) (m : List ℕ × List (ℕ × E)) → get_elem? ((v.numbers, v.seen) ∷ (w.numbers, w.seen) ∷ []) i ≡ some m → Follows m.0 m.1 log × (length m.1 ≤ length j.seen) × ((k : ℕ) → times k m.0 ≤ times k j.numbers) × GrowsBelow p m.1 log
+        two j v w log a b c d x y gv gw zero m e = let P : List ℕ × List (ℕ × E) → Type 0 = λ q. Follows q.0 q.1 log × (length q.1 ≤ length j.seen) × ((k : ℕ) → times k q.0 ≤ times k j.numbers) × GrowsBelow p q.1 log in subst P (some-injective (v.numbers, v.seen) m e) (a, c, x, gv)
+        two j v w log a b c d x y gv gw (suc zero) m e = let P : List ℕ × List (ℕ × E) → Type 0 = λ q. Follows q.0 q.1 log × (length q.1 ≤ length j.seen) × ((k : ℕ) → times k q.0 ≤ times k j.numbers) × GrowsBelow p q.1 log in subst P (some-injective (w.numbers, w.seen) m e) (b, d, y, gw)
+        two j v w log a b c d x y gv gw (suc (suc i)) m e = absurd (some-ne-none m (sym e))
 
         fulls : (o q : Option ℕ) → IfSome o (λ n. (limit ≤ n) × (n < tix s)) → IfSome q (λ n. (limit ≤ n) × (n < tix s)) → IfSome (first_some o q) (λ n. (limit ≤ n) × (n < tix s))
         fulls None q a b = b
@@ -487,9 +506,9 @@ module _ {E B : Type 0} where
 
     -- what the seat has where the look found its ticket
     pub found_log : (st : Step (Option L)) (m₀ m n : At) (t r : ℕ) → m ≡ m₀ → m₀.1 ≡ [] → m₀.0.ticket ≡ Some t → r ≡ t → Looks list base_of st m r n
-        → (l : L) × (n ≡ (in_turn m₀.0 (list l), (0, Some l) ∷ [])) × Follows m₀.0.numbers m₀.0.seen (list l) × (m₀.0.base ≡ Some (base_of l))
-    found_log st m₀ m n t r same empty tick hit_is told = subst (λ (x : At). Looks list base_of st x r n → (l : L) × (n ≡ (in_turn m₀.0 (list l), (0, Some l) ∷ [])) × Follows m₀.0.numbers m₀.0.seen (list l) × (m₀.0.base ≡ Some (base_of l))) (sym same)
-        (λ says. let t = says.1 (tick ∙ ap Some (sym hit_is)) in (t.0, t.1 ∙ (λ i. (in_turn m₀.0 (list t.0), (0, Some t.0) ∷ empty i)), t.2, t.3)) told
+        → (l : L) × (n ≡ (in_turn m₀.0 (list l), (0, Some l) ∷ [])) × Follows m₀.0.numbers m₀.0.seen (list l) × (m₀.0.base ≡ Some (base_of l)) × GrowsBelow m₀.0.passes m₀.0.seen (list l)
+    found_log st m₀ m n t r same empty tick hit_is told = subst (λ (x : At). Looks list base_of st x r n → (l : L) × (n ≡ (in_turn m₀.0 (list l), (0, Some l) ∷ [])) × Follows m₀.0.numbers m₀.0.seen (list l) × (m₀.0.base ≡ Some (base_of l)) × GrowsBelow m₀.0.passes m₀.0.seen (list l)) (sym same)
+        (λ says. let t = says.1 (tick ∙ ap Some (sym hit_is)) in (t.0, t.1 ∙ (λ i. (in_turn m₀.0 (list t.0), (0, Some t.0) ∷ empty i)), t.2, t.3, t.4)) told
 
     -- and once the log is taken out
     pub taken : (v : View E B) (n n' : At) (l : L) (got : Option L) (x : L) → n ≡ (in_turn v (list l), (0, Some l) ∷ []) → n.1 ≡ (0, got) ∷ rest n.1 → got ≡ Some x → n' ≡ (n.0, (0, None) ∷ rest n.1)

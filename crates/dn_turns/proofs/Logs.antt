@@ -1,9 +1,9 @@
 -- Logs that go on from what was seen.
-use Rattle.std.proofs.Common.{◌≡◌, ℕ, zero, suc, ◌+◌, ◌≤◌, List, [], ◌∷◌, ◌++◌, length, sym, refl, ap, ◌∙◌, subst, ⊎_elim, arith, append_assoc, append-nil}
+use Rattle.std.proofs.Common.{◌≡◌, ℕ, zero, suc, ◌+◌, ◌<◌, ◌≤◌, List, [], ◌∷◌, ◌++◌, length, sym, refl, ap, ◌∙◌, subst, ⊎_elim, arith, append_assoc, append-nil}
 use mathlib.Core.Option.{some, some-ne-none}
 use lib.ListN.{get_elem?}
 use Rattle.atomic_table.proofs.Lists.{at_snoc}
-use Rattle.dn_turns.specs.Logs.{times, Follows}
+use Rattle.dn_turns.specs.Logs.{times, Follows, GrowsBelow}
 
 module _ {A : Type 0} where
   head_or : A → List A → A
@@ -38,7 +38,22 @@ module _ {A : Type 0} where
   at_front (x ∷ m) q zero a e = e
   at_front (x ∷ m) q (suc j) a e = at_front m q j a e
 
+module _ {A : Type 0} where
+  pub in_range : (l : List A) (j : ℕ) (a : A) → get_elem? l j ≡ some a → j < length l
+  in_range [] j a e = absurd (some-ne-none a (sym e))
+  in_range (x ∷ l) zero a e = omega arith
+  in_range (x ∷ l) (suc j) a e = omega (arith, in_range l j a e)
+
 module _ {E : Type 0} where
+  pub grows_none : (n : ℕ) (log : List (ℕ × E)) → GrowsBelow n log log
+  grows_none n log j p le at = absurd (omega (arith, le, in_range log j p at))
+
+  pub grows_same : (n : ℕ) (seen log : List (ℕ × E)) → log ≡ seen → GrowsBelow n seen log
+  grows_same n seen log same = subst (GrowsBelow n seen) (sym same) (grows_none n seen)
+
+  pub grows_by : (n : ℕ) (seen log : List (ℕ × E)) (e : ℕ × E) → e.0 < n → GrowsBelow n seen log → GrowsBelow n seen (log ++ e ∷ [])
+  grows_by n seen log e lt h j p le at = ⊎_elim (λ t. h j p le t) (λ (t : e ≡ p). subst (λ (x : ℕ × E). x.0 < n) t lt) (at_snoc log e p j at)
+
   -- what was seen is the whole log
   pub whole_log : (ns : List ℕ) (log : List (ℕ × E)) → Follows ns log log
   whole_log ns log = ([], sym (append-nil log), λ j p e. absurd (some-ne-none p (sym e)))

@@ -128,3 +128,10 @@ times-range n zero x = omega arith
 times-range n (suc k) x = dite (ℕ_discrete n x)
     (λ e. omega (arith, times-append x (n ∷ []) (range (n + 1) k), hit n x e, times_below (n + 1) k x (omega arith)))
     (λ ne. omega (arith, times-append x (n ∷ []) (range (n + 1) k), miss n x ne, times-range (n + 1) k x))
+
+times_above : (n k x : ℕ) → n + k ≤ x → times x (range n k) ≡ 0
+times_above n zero x h = refl
+times_above n (suc k) x h = omega (arith, times-append x (n ∷ []) (range (n + 1) k), miss n x (λ e. omega arith), times_above (n + 1) k x (omega arith))
+
+pub range_below : (p x : ℕ) → 0 < times x (range 0 p) → x < p
+range_below p x h = dite (dec_le p x) (λ le. absurd (omega (arith, times_above 0 p x (omega arith), h))) (λ gt. omega arith)

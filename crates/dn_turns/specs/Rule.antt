@@ -3,7 +3,7 @@ use Rattle.std.specs.Prelude.{◌≡◌, ℕ, ◌+◌, ◌<◌, ◌≤◌, min, 
 use mathlib.Core.Option.{some}
 use lib.ListN.{get_elem?}
 use Rattle.atomic_table.specs.Table.{State, Me, Step}
-use Rattle.dn_turns.specs.Logs.{total, times, equal, range, within, Follows}
+use Rattle.dn_turns.specs.Logs.{total, times, equal, range, within, Follows, GrowsBelow}
 use Rattle.dn_turns.specs.declared.view.View.{View}
 
 -- the count of tickets at which no more are given
@@ -76,7 +76,10 @@ module _ {E B : Type 0} where
   pub record Fits (passes : ℕ) (base : B) (log : List (ℕ × E)) (tickets serving : ℕ) (v : View E B) : Type 0 where
     pub limits : (length v.numbers ≡ 0) ⊎ ((v.passes ≡ passes) × (v.base ≡ Some base))
     pub seen : Follows v.numbers v.seen log
-    pub met : (j : ℕ) (m : List ℕ × List (ℕ × E)) → get_elem? v.met j ≡ some m → Follows m.0 m.1 log × (length m.1 ≤ length v.seen) × ((k : ℕ) → times k m.0 ≤ times k v.numbers)
+    pub met : (j : ℕ) (m : List ℕ × List (ℕ × E)) → get_elem? v.met j ≡ some m → Follows m.0 m.1 log × (length m.1 ≤ length v.seen) × ((k : ℕ) → times k m.0 ≤ times k v.numbers) × GrowsBelow passes m.1 log
+    -- its numbers are of passes, and so are those of the entries that it hasn't seen
+    pub below : (k : ℕ) → 0 < times k v.numbers → k < passes
+    pub grows : 0 < length v.numbers → GrowsBelow passes v.seen log
     pub turn : IfSome v.turn (λ g. (g ≡ log) × (v.ticket ≡ Some serving))
     pub full : IfSome v.full (λ n. (limit ≤ n) × (n < tickets))
     pub idle : length v.numbers ≡ 0 → v.drawn ≡ 0
@@ -105,7 +108,7 @@ module _ {E B : Type 0} where
 
     -- the log is taken where the turn has come
     abbrev pub Looks : Step (Option L) → At → ℕ → At → Type 0
-    Looks st m found n = (¬ (m.0.ticket ≡ Some found) → n ≡ m) × (m.0.ticket ≡ Some found → (l : L) × (n ≡ (in_turn m.0 (list l), (0, Some l) ∷ m.1)) × Follows m.0.numbers m.0.seen (list l) × (m.0.base ≡ Some (base_of l)))
+    Looks st m found n = (¬ (m.0.ticket ≡ Some found) → n ≡ m) × (m.0.ticket ≡ Some found → (l : L) × (n ≡ (in_turn m.0 (list l), (0, Some l) ∷ m.1)) × Follows m.0.numbers m.0.seen (list l) × (m.0.base ≡ Some (base_of l)) × GrowsBelow m.0.passes m.0.seen (list l))
 
     -- the log that was put back is seen
     abbrev pub Passes : Step (Option L) → At → ℕ → At → Type 0
@@ -114,6 +117,6 @@ module _ {E B : Type 0} where
     -- after a join, what the two had seen is compared
     abbrev pub Settles : Step (Option L) → At → ℕ → At → Type 0
     Settles st m found n = (n ≡ (settled m.0, m.1))
-        × ((j : ℕ) (p : List ℕ × List (ℕ × E)) → get_elem? m.0.met j ≡ some p → Follows p.0 p.1 m.0.seen)
+        × ((j : ℕ) (p : List ℕ × List (ℕ × E)) → get_elem? m.0.met j ≡ some p → Follows p.0 p.1 m.0.seen × GrowsBelow m.0.passes p.1 m.0.seen)
         × (length m.0.numbers ≡ m.0.passes → found ≡ m.0.drawn)
         × IfSome m.0.full (λ k. k < found)

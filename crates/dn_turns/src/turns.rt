@@ -1,5 +1,5 @@
 ghost use Rattle.std.specs.Prelude.{◌≡◌, ℕ, ◌+◌, ◌<◌, ◌≤◌, ◌++◌, ◌∷◌, [], List, All, length, Some, None, IfOk, IfErr, IfSome, IfNone, OnErr, Option, Err, slice_get};
-ghost use Rattle.dn_turns.specs.Logs.{Follows, GoesOn, under};
+ghost use Rattle.dn_turns.specs.Logs.{Follows, GoesOn, GrowsBelow, under};
 ghost use Rattle.dn_turns.specs.Rule.{limit, longer, first_some, in_turn, passed_on};
 ghost use Rattle.dn_turns.specs.Turns.{IsFresh, IsSamePass, IsTurnOf, least};
 
@@ -154,10 +154,11 @@ impl<L: Log + Drop> Turns<L> {
         ensures pass { IsSamePass pass.old pass.new }
         ensures taken { IfOk result (λ t. IsTurnOf L.list L.base t pass.new × (pass.new.seen ≡ pass.old.seen) × (pass.new.full ≡ None)) }
 
-        // The log begins with what was seen, and goes on under other numbers.
+        // The log begins with what was seen, and goes on under other numbers, all of passes.
         ensures follows { IfOk result (λ t. Follows pass.old.numbers pass.old.seen (L.list t.log)) }
+        ensures grows { IfOk result (λ t. GrowsBelow self.now.passes pass.old.seen (L.list t.log)) }
         ensures own { IfOk result (λ t. under pass.old.numbers (L.list t.log) ≡ under pass.old.numbers pass.old.seen) }
-        ensures refused { OnErr result ((pass.new.turn ≡ None) × Follows pass.old.numbers pass.old.seen pass.new.seen) }
+        ensures refused { OnErr result ((pass.new.turn ≡ None) × Follows pass.old.numbers pass.old.seen pass.new.seen × GrowsBelow self.now.passes pass.old.seen pass.new.seen) }
         ensures full { (n : ℕ) → result ≡ Err (TakeFault.Full n) → (limit ≤ n) × (pass.new.full ≡ Some n) × (pass.new.seen ≡ pass.old.seen) }
         ensures memory { result ≡ Err TakeFault.NoMemory → pass.new.full ≡ None }
         ensures drawn { IfNone pass.old.full (pass.new.drawn ≡ pass.old.drawn + 1) }
@@ -207,6 +208,7 @@ impl<L: Log + Drop> Turns<L> {
         ensures numbers { pass.new.numbers ≡ pass.old.numbers ++ other.numbers }
         ensures seen { pass.new.seen ≡ longer pass.old.seen other.seen }
         ensures both { Follows pass.old.numbers pass.old.seen pass.new.seen × Follows other.numbers other.seen pass.new.seen }
+        ensures grows { GrowsBelow self.now.passes pass.old.seen pass.new.seen × GrowsBelow self.now.passes other.seen pass.new.seen }
         ensures drawn { (pass.new.drawn ≡ pass.old.drawn + other.drawn) × (pass.new.full ≡ first_some pass.old.full other.full) }
 
         // A pass that stands for all knows how many tickets there were.
@@ -235,6 +237,7 @@ fn wait<L: Log, R: Wait>(rt: &R, shared: &SharedOf<L>, seat: &mut SeatOf<L>, tic
     requires seat { (seat.old.me.0.ticket ≡ Some ticket) × (seat.old.me.0.turn ≡ None) × (seat.old.me.1 ≡ []) × (0 < length seat.old.me.0.numbers) }
     ensures seat { (seat.new.table_id ≡ seat.old.table_id) × (seat.new.id ≡ seat.old.id) }
     ensures turn { seat.new.me ≡ (in_turn seat.old.me.0 (L.list result), (0, None) ∷ []) }
+    ensures grows { GrowsBelow seat.old.me.0.passes seat.old.me.0.seen (L.list result) }
     ensures log { Follows seat.old.me.0.numbers seat.old.me.0.seen (L.list result) × (seat.old.me.0.base ≡ Some (L.base result)) }
 {
     for _ in rt.forever() {

@@ -1,6 +1,7 @@
 use Rattle.std.proofs.Common.{rules, ap, sym, subst, ◌∙◌, ◌≡◌, ◌≤◌, IfSome, refl, Some}
 use Rattle.dn_turns.specs.Rule.{limit}
 use Rattle.dn_turns.proofs.Keeps.{tickets}
+use Rattle.dn_turns.proofs.Logs.{whole_log, grows_none, grows_same}
 use Rattle.dn_turns.proofs.Own.{under-follows}
 use Rattle.dn_turns.proofs.turns.Turns.take.Goals as goal
 
@@ -17,3 +18,9 @@ returns-in-Some-clause-full g c n e =
 
 pub returns-clause-own : goal.returns-clause-own
 returns-clause-own g c = under-follows c.args.pass.now.numbers c.args.pass.now.seen (g.L.Log.list c.room.new.self) (search rules)
+
+pub returns-in-Some-clause-refused : goal.returns-in-Some-clause-refused
+returns-in-Some-clause-refused g c = (c.requires.1, whole_log c.args.pass.now.numbers c.args.pass.now.seen, grows_none _ c.args.pass.now.seen)
+
+pub returns-then-ticket-ge-LIMIT-clause-refused : goal.returns-then-ticket-ge-LIMIT-clause-refused
+returns-then-ticket-ge-LIMIT-clause-refused g c = (search rules, search rules, grows_same _ _ _ (search rules))
