@@ -50,13 +50,13 @@ module _ {T : Type 0} where
 
   -- the clients so far
   pub took_none : (m : At T) (xs : List (ClientId × T)) → xs ≡ [] → m.1 ≡ [] → m ≡ (took_all m.0 (clients_of xs), [])
-  took_none m xs empty e = λ j. (view m.0.passes m.0.clients m.0.before m.0.numbers m.0.claim m.0.unmarked m.0.draws m.0.values m.0.repeats m.0.closing m.0.looked ((sym (append-nil m.0.taken) ∙ ap (λ l. m.0.taken ++ clients_of l) (sym empty)) j) m.0.right, e j)
+  took_none m xs empty e = λ j. (view m.0.passes m.0.clients m.0.before m.0.numbers m.0.claim m.0.unmarked m.0.draws m.0.values m.0.repeats m.0.closing m.0.looked ((sym (append-nil m.0.taken) ∙ ap (λ l. m.0.taken ++ clients_of l) (sym empty)) j) m.0.right m.0.refused m.0.closings, e j)
 
   pub took_more : (v u : View T) (i : ℕ) (m : At T) (xs ys : List (ClientId × T)) → u ≡ took_all v (clients_of xs) → IsLeftOrTaken u i m xs ys → m ≡ (took_all v (clients_of ys), [])
   took_more v u i m xs ys is t = ⊎_elim
       (λ l. l.0 ∙ ap (λ w. (w, [])) is ∙ ap (λ c. (took_all v (clients_of c), [])) (sym l.1))
       (λ r. r.1 ∙ ap (λ w. (took w i, [])) is
-      ∙ (λ j. (view v.passes v.clients v.before v.numbers v.claim v.unmarked v.draws v.values v.repeats v.closing v.looked ((append_assoc v.taken (clients_of xs) (i ∷ []) ∙ ap (λ l. v.taken ++ l) (sym (map-append (λ p. p.0.0) xs (named (i, r.0) ∷ []))) ∙ ap (λ c. v.taken ++ clients_of c) (sym r.2)) j) v.right, [])))
+      ∙ (λ j. (view v.passes v.clients v.before v.numbers v.claim v.unmarked v.draws v.values v.repeats v.closing v.looked ((append_assoc v.taken (clients_of xs) (i ∷ []) ∙ ap (λ l. v.taken ++ l) (sym (map-append (λ p. p.0.0) xs (named (i, r.0) ∷ []))) ∙ ap (λ c. v.taken ++ clients_of c) (sym r.2)) j) v.right v.refused v.closings, [])))
       t
 
   -- where the word wasn't marked, and where it was

@@ -7,7 +7,7 @@ use lib.ListN.{get_elem?}
 use Rattle.atomic_table.specs.Table.{Step}
 use Rattle.atomic_table.specs.Seated.{TableId}
 use Rattle.dn_gate.specs.Draws.{Draw}
-use Rattle.dn_gate.specs.Rule.{At, closed, total, equal, once_below, included_of, IsBefore, IsTold, includes, puts, marks_upto, without_right, IsSettled, Settles}
+use Rattle.dn_gate.specs.Rule.{At, closed, total, equal, once_below, included_of, IsBefore, IsTold, includes, puts, marks_upto, view, IsSettled, Settles}
 use Rattle.dn_gate.specs.Pass.{GateId, PassView, pass_view, as_view, IsReady}
 use Rattle.dn_gate.specs.declared.view.View.{View}
 use Rattle.dn_gate.proofs.Sums.{hit, miss, below_more, below_yes, below_no}
@@ -98,12 +98,15 @@ module _ {T : Type 0} where
       told.2 (ap (λ (x : PassView T). length x.numbers) view_is ∙ all ∙ sym (ap (λ (x : GateId). x.passes) (ap (λ (x : PassView T). x.gate) view_is ∙ gate)))
       (ap (λ (x : PassView T). x.claim) view_is ∙ ready.0, ap (λ (x : PassView T). x.unmarked) view_is ∙ ready.1)
 
-  -- the right to take values is no part of it
-  pub settled_without : (v : View T) → IsSettled v → IsSettled (without_right v)
-  settled_without v w = record { places = w.places; inside = w.inside; told = w.told; cut = w.cut; once = w.once; repeats = w.repeats; numbered = w.numbered; values = w.values }
+  -- the right to take values and the number of closings are no part of it
+  abbrev pub plain : View T → View T
+  plain v = view v.passes v.clients v.before v.numbers v.claim v.unmarked v.draws v.values v.repeats v.closing v.looked v.taken 0 v.refused 0
+
+  pub settled_plain : (v : View T) → IsSettled v → IsSettled (plain v)
+  settled_plain v w = record { places = w.places; inside = w.inside; told = w.told; cut = w.cut; once = w.once; repeats = w.repeats; numbered = w.numbered; values = w.values; refused = w.refused }
 
   pub settled_view : (t : TableId) (s : ℕ) (m : At T) (p : PassView T) → pass_view t s m ≡ p → IsSettled m.0 → IsSettled (as_view p)
-  settled_view t s m p view_is w = subst (λ (x : PassView T). IsSettled (as_view x)) view_is (settled_without m.0 w)
+  settled_view t s m p view_is w = subst (λ (x : PassView T). IsSettled (as_view x)) view_is (settled_plain m.0 w)
 
   -- so many words were found marked as the closing counts
   pub none_missing : (t : TableId) (s clients count marked : ℕ) (m n : At T) (p : PassView T) (q : GateId) → pass_view t s m ≡ p → p.gate ≡ q → p.closing ≡ Some count → length p.numbers ≡ q.passes → clients ≡ q.clients → n ≡ m → IsSettled m.0

@@ -338,6 +338,7 @@ module _ {T : Type 0} where
         one_thread = answered;
         places = places_from p.draws 0 (λ j d at. w.places j d at ∙ omega arith);
         cut = w.cut;
+        refused = w.refused;
         repeats = each_once p.gate.passes p.repeats w.numbered;
         values = λ i.
             count_with i p.values ∙ w.values i ∙ sym (included_draws i p.draws)

@@ -64,6 +64,8 @@ module _ (T : Type 0) (clients passes : ℕ) (before : List ℕ) where
         closing = either_cut k.cut v.closing w.closing f.closing g.closing;
         marks = λ i. omega (arith, f.marks i, g.marks i, put i, total-merge (included_of i) v.draws w.draws, ap (is_client i) no_mark);
         asked = λ n q e. ⊎_elim (λ a. f.asked n q a) (λ a. g.asked a.0 q a.1) (append_at v.repeats w.repeats n q e);
+        made = omega (arith, f.made, g.made, either_has v.closing w.closing most);
+        refused = λ n q e. ⊎_elim (λ a. f.refused n q a) (λ a. g.refused a.0 q a.1) (append_at v.refused w.refused n q e);
         takes = λ e. omega (arith, length-append v.taken w.taken, f.takes (omega (arith, e)), g.takes (omega (arith, e)));
         idle = λ z. absurd (omega (arith, z, length-append v.numbers w.numbers));
       } in
@@ -88,6 +90,13 @@ module _ (T : Type 0) (clients passes : ℕ) (before : List ℕ) where
             (λ t. ⊎_elim
             (λ y. ⊎_elim (λ c. k.repeated id n v q at c) (λ c. k.repeated other c.0 w q there c.1) (append_at v.repeats w.repeats n q (ap (λ (x : View T). get_elem? x.repeats n) y.1 ∙ b)))
             (λ y. k.repeated o n u q y.1 b)
+            (at_set s.views id o j u t.1))
+            (at_set vs other o spent u a);
+        found = λ o n u q a b. ⊎_elim
+            (λ t. absurd (some-ne-none q (sym b ∙ ap (λ (y : View T). get_elem? y.refused n) (sym t.1))))
+            (λ t. ⊎_elim
+            (λ y. ⊎_elim (λ c. k.found id n v q at c) (λ c. k.found other c.0 w q there c.1) (append_at v.refused w.refused n q (ap (λ (x : View T). get_elem? x.refused n) y.1 ∙ b)))
+            (λ y. k.found o n u q y.1 b)
             (at_set s.views id o j u t.1))
             (at_set vs other o spent u a);
         free = k.free;
@@ -135,6 +144,8 @@ module _ (T : Type 0) (clients passes : ℕ) (before : List ℕ) where
         closing = tt;
         marks = λ i. refl;
         asked = λ n q e. absurd (some-ne-none q (sym e));
+        made = refl;
+        refused = λ i q e. absurd (some-ne-none q (sym e));
         takes = λ e. refl;
         idle = λ z. (refl, refl, refl, refl, refl);
       }
@@ -152,7 +163,7 @@ module _ (T : Type 0) (clients passes : ℕ) (before : List ℕ) where
       let un : u.numbers ≡ n ∷ [] = ap first_only is in
       let same : (g : View T → ℕ) → g w ≡ g v → g u ≡ 0 → total g (set s.views id w ++ u ∷ []) ≡ total g s.views = λ g a b. omega (arith, both g, a, b) in
       let lows : total (λ x. length x.draws) (set s.views id w ++ u ∷ []) ≡ total (λ x. length x.draws) s.views = same (λ x. length x.draws) refl refl in
-      let wf : Fits clients passes before k.cut w = record { limits = inr lim; told = f.told; inside = f.inside; ascending = f.ascending; below = λ i j e. f.below (suc i) j (ap (λ l. get_elem? l (suc i)) is ∙ ap (λ l. get_elem? l i) (sym wn) ∙ e); numbered = f.numbered; closing = f.closing; marks = f.marks; asked = f.asked; takes = f.takes; idle = λ z. (ap length no_draws, ap length no_values, ap length no_repeats, no_closing, no_claim) } in
+      let wf : Fits clients passes before k.cut w = record { limits = inr lim; told = f.told; inside = f.inside; ascending = f.ascending; below = λ i j e. f.below (suc i) j (ap (λ l. get_elem? l (suc i)) is ∙ ap (λ l. get_elem? l i) (sym wn) ∙ e); numbered = f.numbered; closing = f.closing; marks = f.marks; asked = f.asked; made = f.made; refused = f.refused; takes = f.takes; idle = λ z. (ap length no_draws, ap length no_values, ap length no_repeats, no_closing, no_claim) } in
       let uf : Fits clients passes before k.cut u = record {
         limits = inr lim;
         told = λ i d e. absurd (some-ne-none d (sym e));
@@ -163,6 +174,8 @@ module _ (T : Type 0) (clients passes : ℕ) (before : List ℕ) where
         closing = tt;
         marks = λ i. refl;
         asked = λ i q e. absurd (some-ne-none q (sym e));
+        made = refl;
+        refused = λ i q e. absurd (some-ne-none q (sym e));
         takes = λ e. refl;
         idle = λ z. (refl, refl, refl, refl, refl);
       } in
@@ -186,6 +199,10 @@ module _ (T : Type 0) (clients passes : ℕ) (before : List ℕ) where
             (λ t. ⊎_elim (λ y. k.repeated id o v q at (ap (λ (z : View T). get_elem? z.repeats o) y.1 ∙ b)) (λ y. k.repeated j o x q y.1 b) (at_set s.views id j w x t))
             (λ (t : u ≡ x). absurd (some-ne-none q (sym b ∙ ap (λ (z : View T). get_elem? z.repeats o) (sym t))))
             (at_snoc (set s.views id w) u x j a);
+        found = λ j o x q a b. ⊎_elim
+            (λ t. ⊎_elim (λ y. k.found id o v q at (ap (λ (z : View T). get_elem? z.refused o) y.1 ∙ b)) (λ y. k.found j o x q y.1 b) (at_set s.views id j w x t))
+            (λ (t : u ≡ x). absurd (some-ne-none q (sym b ∙ ap (λ (z : View T). get_elem? z.refused o) (sym t))))
+            (at_snoc (set s.views id w) u x j a);
         free = k.free;
         kept = λ i j o x y a b z. let z' : total (λ q. times i q.taken) s.views ≡ 0 = sym (same (λ q. times i q.taken) refl refl) ∙ z in ⊎_elim
             (λ t. ⊎_elim (λ c. k.kept i id o v y at (ap (λ (q : View T). get_elem? q.values o) c.1 ∙ b) z') (λ c. k.kept i j o x y c.1 b z') (at_set s.views id j w x t))
@@ -205,7 +222,7 @@ module _ (T : Type 0) (clients passes : ℕ) (before : List ℕ) where
       let both : (g : View T → ℕ) → total g (set s.views id w ++ u ∷ []) + g v ≡ total g s.views + g w + g u = λ g. omega (arith, total-append g (set s.views id w) (u ∷ []), total-set g s.views id v w at) in
       let same : (g : View T → ℕ) → g w + g u ≡ g v → total g (set s.views id w ++ u ∷ []) ≡ total g s.views = λ g a. omega (arith, both g, a) in
       let lows : total (λ x. length x.draws) (set s.views id w ++ u ∷ []) ≡ total (λ x. length x.draws) s.views = same (λ x. length x.draws) (omega arith) in
-      let wf : Fits clients passes before k.cut w = record { limits = f.limits; told = f.told; inside = f.inside; ascending = f.ascending; below = f.below; numbered = f.numbered; closing = f.closing; marks = f.marks; asked = f.asked; takes = λ _. none_taken; idle = f.idle } in
+      let wf : Fits clients passes before k.cut w = record { limits = f.limits; told = f.told; inside = f.inside; ascending = f.ascending; below = f.below; numbered = f.numbered; closing = f.closing; marks = f.marks; asked = f.asked; made = f.made; refused = f.refused; takes = λ _. none_taken; idle = f.idle } in
       let uf : Fits clients passes before k.cut u = record {
         limits = inl refl;
         told = λ i d e. absurd (some-ne-none d (sym e));
@@ -216,6 +233,8 @@ module _ (T : Type 0) (clients passes : ℕ) (before : List ℕ) where
         closing = tt;
         marks = λ i. refl;
         asked = λ i q e. absurd (some-ne-none q (sym e));
+        made = refl;
+        refused = λ i q e. absurd (some-ne-none q (sym e));
         takes = λ e. refl;
         idle = λ z. (refl, refl, refl, refl, refl);
       } in
@@ -238,6 +257,10 @@ module _ (T : Type 0) (clients passes : ℕ) (before : List ℕ) where
         repeated = λ j o x q a b. ⊎_elim
             (λ t. ⊎_elim (λ y. k.repeated id o v q at (ap (λ (z : View T). get_elem? z.repeats o) y.1 ∙ b)) (λ y. k.repeated j o x q y.1 b) (at_set s.views id j w x t))
             (λ (t : u ≡ x). absurd (some-ne-none q (sym b ∙ ap (λ (z : View T). get_elem? z.repeats o) (sym t))))
+            (at_snoc (set s.views id w) u x j a);
+        found = λ j o x q a b. ⊎_elim
+            (λ t. ⊎_elim (λ y. k.found id o v q at (ap (λ (z : View T). get_elem? z.refused o) y.1 ∙ b)) (λ y. k.found j o x q y.1 b) (at_set s.views id j w x t))
+            (λ (t : u ≡ x). absurd (some-ne-none q (sym b ∙ ap (λ (z : View T). get_elem? z.refused o) (sym t))))
             (at_snoc (set s.views id w) u x j a);
         free = k.free;
         kept = λ i j o x y a b z. let z' : total (λ q. times i q.taken) s.views ≡ 0 = sym (same (λ q. times i q.taken) (omega arith)) ∙ z in ⊎_elim
@@ -277,6 +300,7 @@ module _ (T : Type 0) (clients passes : ℕ) (before : List ℕ) where
         marked = λ i h. ap (λ (x : ℕ). cond {A = ℕ} (x == 3) 1 0) (words i h) ∙ not_three (nat_lt 0 (times i before));
         stays = λ i h p. absurd (omega (arith, p));
         repeated = λ j o u q a b. absurd (nothing j u (λ x. get_elem? x.repeats o ≡ some q) a b (λ e. some-ne-none q (sym e)));
+        found = λ j o u q a b. absurd (nothing j u (λ x. get_elem? x.refused o ≡ some q) a b (λ e. some-ne-none q (sym e)));
         free = λ i h z. empty_slots clients i h;
         kept = λ i j o u x a b z. absurd (nothing j u (λ y. get_elem? y.values o ≡ some (i, x)) a b (λ e. some-ne-none (i, x) (sym e)));
         fits = λ j u e. ⊎_elim (λ (x : get_elem? [] j ≡ some u). absurd (some-ne-none u (sym x))) (λ (t : v ≡ u). subst (Fits clients passes before None) t record {
@@ -289,6 +313,8 @@ module _ (T : Type 0) (clients passes : ℕ) (before : List ℕ) where
           closing = tt;
           marks = λ i. refl;
           asked = λ i q e. absurd (some-ne-none q (sym e));
+          made = refl;
+          refused = λ i q e. absurd (some-ne-none q (sym e));
           takes = λ e. refl;
           idle = λ z. (refl, refl, refl, refl, refl);
         }) (at_snoc [] v u j e);

@@ -8,7 +8,7 @@ use lib.Seq.{set-get_or}
 use Rattle.atomic_table.specs.Table.{State, step, Act, keeps, takes, gives, rest, Valid, carried_after, homes_after, stepped, Allows}
 use Rattle.atomic_table.proofs.Lists.{at_set, at_snoc, set_here, set_again, set_else}
 use Rattle.dn_gate.specs.Draws.{Draw}
-use Rattle.dn_gate.specs.Rule.{closed, after_first, is_set, was, total, equal, times, once_below, at_place, of_client, included_of, is_client, IsBefore, IsTold, view, closed_at, claims, draws_of, puts, has_closing, many, is_mark, sees, drew_in, drew_late, claimed, repeated, marked, took, looked_at, least, Ascends, Fits, IsKept, At, Claims, Closes, Draws, Marks, Looks, Takes, Returns, IsSettled, IsIdle, Settles}
+use Rattle.dn_gate.specs.Rule.{closed, after_first, is_set, was, total, equal, times, once_below, at_place, of_client, included_of, is_client, IsBefore, IsTold, view, closed_at, refused_at, IsShut, claims, draws_of, puts, has_closing, many, is_mark, sees, drew_in, drew_late, claimed, repeated, marked, took, looked_at, least, Ascends, Fits, IsKept, At, Claims, Closes, Draws, Marks, Looks, Takes, Returns, IsSettled, IsIdle, Settles}
 use Rattle.dn_gate.specs.declared.view.View.{View}
 use Rattle.dn_gate.proofs.Sums.{set_over, total-append, total-set, term_le, total_less, whole, someone, times-append, below_no, below_more, hit, miss, in_range, snoc_at}
 use Rattle.dn_gate.proofs.Bits.{close_open, close_closed}
@@ -73,6 +73,45 @@ module _ (T : Type 0) (clients passes : ℕ) (before : List ℕ) where
   at_most : (s : St) (k : Kept s) → low s ≤ clients
   at_most s k = omega (arith, k.few, fewer s.views, all_set (after_first s.words), length-after_first s.words, k.wide)
 
+  -- a close that was refused
+  denied : (s : St) (k : Kept s) (id r : ℕ) (v : View T) → 0 < length v.numbers → get_elem? s.views id ≡ some v → IsShut k.cut r → r ≤ get_or s.words 0 0 → Kept record { words = s.words; homes = s.homes; views = set s.views id (refused_at v r) }
+  denied s k id r v live at shut most =
+      let w : View T = refused_at v r in
+      let f = k.fits id v at in
+      let same : (g : View T → ℕ) → g w ≡ g v → total g (set s.views id w) ≡ total g s.views = λ g q. omega (arith, total-set g s.views id v w at, q) in
+      let lows : total (λ u. length u.draws) (set s.views id w) ≡ low s = same (λ u. length u.draws) refl in
+      record {
+        cut = k.cut;
+        wide = k.wide;
+        slots = k.slots;
+        numbers = same (λ u. length u.numbers) refl ∙ k.numbers;
+        once = λ j. omega (arith, same (λ u. times j u.numbers) refl, k.once j);
+        control = omega (arith, lows, k.control);
+        few = omega (arith, same (λ u. length u.draws + cond (is_some u.claim) 1 0) refl, k.few);
+        places = λ j. same (λ u. total (at_place j) u.draws) refl ∙ k.places j ∙ ap (once_below j) (sym lows);
+        closings = same has_closing refl ∙ k.closings;
+        rights = omega (arith, same (λ u. u.right) refl, k.rights);
+        count = subst (λ (x : ℕ). IfSome k.cut (λ y. y ≤ x)) (sym lows) k.count;
+        kinds = k.kinds;
+        claimed = λ j h. omega (arith, k.claimed j h, same (claims j) refl, same (draws_of j) refl);
+        marked = λ j h. k.marked j h ∙ sym (same (puts j) refl);
+        stays = λ j h p. k.stays j h (omega (arith, same (sees j) refl, p));
+        repeated = λ j o u q a b. ⊎_elim (λ t. k.repeated id o v q at (ap (λ l. get_elem? l o) (ap (λ (y : View T). y.repeats) t.1) ∙ b)) (λ t. k.repeated j o u q t.1 b) (at_set s.views id j w u a);
+        found = λ j o u q a b. ⊎_elim
+            (λ t. ⊎_elim (λ y. k.found id o v q at y) (λ (y : r ≡ q). subst (λ (x : ℕ). x ≤ get_or s.words 0 0) y most) (at_snoc v.refused r q o (ap (λ l. get_elem? l o) (ap (λ (y : View T). y.refused) t.1) ∙ b)))
+            (λ t. k.found j o u q t.1 b)
+            (at_set s.views id j w u a);
+        free = k.free;
+        kept = λ i o j u x a b z. let z' : total (λ y. times i y.taken) s.views ≡ 0 = sym (same (λ y. times i y.taken) refl) ∙ z in ⊎_elim
+            (λ t. k.kept i id j v x at (ap (λ l. get_elem? l j) (ap (λ (y : View T). y.values) t.1) ∙ b) z')
+            (λ t. k.kept i o j u x t.1 b z')
+            (at_set s.views id o w u a);
+        fits = λ j u q. ⊎_elim
+            (λ t. subst (Fits clients passes before k.cut) t.1 record { limits = f.limits; told = f.told; inside = f.inside; ascending = f.ascending; below = f.below; numbered = f.numbered; closing = f.closing; marks = f.marks; asked = f.asked; made = f.made; refused = λ j' x e'. ⊎_elim (λ t'. f.refused j' x t') (λ (t' : r ≡ x). subst (IsShut k.cut) t' shut) (at_snoc v.refused r x j' e'); takes = f.takes; idle = λ y. absurd (omega arith) })
+            (λ t. k.fits j u t.1)
+            (at_set s.views id j w u q);
+      }
+
   pub closes : (n id : ℕ) (m : At T) → 0 < length m.0.numbers → clients ≤ 512 → Allows Kept n id m 0 (λ y. bit_or y 4294967296) (Closes (step n 0 4294967296 0 none) m)
   closes n id m live small s k wide at _ = by k.cut refl
     where
@@ -104,6 +143,7 @@ module _ (T : Type 0) (clients passes : ℕ) (before : List ℕ) where
           let told : (j : ℕ) (u x : View T) → get_elem? s.views j ≡ some u → u.draws ≡ x.draws → (i : ℕ) (y : Draw) → get_elem? x.draws i ≡ some y → IsTold (Some d) y = λ j u x q same i y z.
           let z' : get_elem? u.draws i ≡ some y = ap (λ l. get_elem? l i) same ∙ z in
           told_open d y (place_low s k j i u y q z') (subst (λ o. IsTold o y) e ((k.fits j u q).told i y z')) in
+          let unshut : (x : ℕ) → IsShut k.cut x → IsShut (Some d) x = λ x h. absurd (some_none (sym h.1 ∙ e)) in
           let kept : Kept st = record {
             cut = Some d;
             wide = length-set s.words 0 (c + 4294967296) ∙ k.wide;
@@ -124,6 +164,9 @@ module _ (T : Type 0) (clients passes : ℕ) (before : List ℕ) where
                 (λ t. k.repeated id i v q at (ap (λ l. get_elem? l i) (ap (λ (y : View T). y.repeats) t.1) ∙ b))
                 (λ t. k.repeated j i u q t.1 b)
                 (at_set s.views id j w u a));
+            found = λ j i u q a b.
+                let before_it : q ≤ c = ⊎_elim (λ t. k.found id i v q at (ap (λ l. get_elem? l i) (ap (λ (y : View T). y.refused) t.1) ∙ b)) (λ t. k.found j i u q t.1 b) (at_set s.views id j w u a) in
+                omega (arith, here, before_it);
             free = λ i h z. k.free i h (sym (there i) ∙ z);
             kept = λ i j n' u x a b z.
                 let z' : total (λ y. times i y.taken) s.views ≡ 0 = sym (same_draws (λ y. times i y.taken) refl) ∙ z in ⊎_elim
@@ -131,8 +174,8 @@ module _ (T : Type 0) (clients passes : ℕ) (before : List ℕ) where
                 (λ t. k.kept i j n' u x t.1 b z')
                 (at_set s.views id j w u a);
             fits = λ j u q. ⊎_elim
-                (λ t. subst (Fits clients passes before (Some d)) t.1 record { limits = f.limits; told = told id v w at refl; inside = f.inside; ascending = f.ascending; below = f.below; numbered = f.numbered; closing = ap Some (sym is); marks = f.marks; asked = f.asked; takes = λ x. absurd (omega arith); idle = λ z. absurd (omega arith) })
-                (λ t. let g = k.fits j u t.1 in record { limits = g.limits; told = told j u u t.1 refl; inside = g.inside; ascending = g.ascending; below = g.below; numbered = g.numbered; closing = unclosed u.closing (subst (λ o. IfSome u.closing (λ n'. o ≡ Some n')) e g.closing); marks = g.marks; asked = g.asked; takes = g.takes; idle = g.idle })
+                (λ t. subst (Fits clients passes before (Some d)) t.1 record { limits = f.limits; told = told id v w at refl; inside = f.inside; ascending = f.ascending; below = f.below; numbered = f.numbered; closing = ap Some (sym is); marks = f.marks; asked = f.asked; made = refl; refused = λ j' x e'. unshut x (f.refused j' x e'); takes = λ x. absurd (omega arith); idle = λ z. absurd (omega arith) })
+                (λ t. let g = k.fits j u t.1 in record { limits = g.limits; told = told j u u t.1 refl; inside = g.inside; ascending = g.ascending; below = g.below; numbered = g.numbered; closing = unclosed u.closing (subst (λ o. IfSome u.closing (λ n'. o ≡ Some n')) e g.closing); marks = g.marks; asked = g.asked; made = g.made; refused = λ j' x e'. unshut x (g.refused j' x e'); takes = g.takes; idle = g.idle })
                 (at_set s.views id j w u q);
           } in (
             w,
@@ -145,11 +188,12 @@ module _ (T : Type 0) (clients passes : ℕ) (before : List ℕ) where
           let c : ℕ = get_or s.words 0 0 in
           let is : c ≡ low s + closed = omega (arith, k.control, ap (λ o. cond {A = ℕ} (is_some o) closed 0) e) in
           let few : low s ≤ clients = at_most s k in
-          let up : bit_or c 4294967296 ≡ c = close_closed c (omega arith) (omega arith) in (
-            m.0,
+          let up : bit_or c 4294967296 ≡ c = close_closed c (omega arith) (omega arith) in
+          let fit : count ≤ low s = subst (λ o. IfSome o (λ x. x ≤ low s)) e k.count in (
+            refused_at m.0 c,
             keeps,
             tt,
-            subst (λ (x : ℕ). Kept (stepped s 0 x id m.1 m.0 keeps)) (sym up) (subst (λ (x : List ℕ × List (View T)). Kept record { words = x.0; homes = s.homes; views = x.1 }) (λ i. (sym (set-get_or s.words 0 0) i, sym (set_again s.views id m.0 at) i)) k),
+            subst (λ (x : ℕ). Kept record { words = set s.words 0 x; homes = s.homes; views = set s.views id (refused_at m.0 c) }) (sym up) (subst (λ (x : List ℕ). Kept record { words = x; homes = s.homes; views = set s.views id (refused_at m.0 c) }) (sym (set-get_or s.words 0 0)) (denied s k id c m.0 live at (count, e, omega arith) (omega arith))),
             ((λ below. absurd (omega arith)), λ _. refl),
           )
 
@@ -182,11 +226,11 @@ module _ (T : Type 0) (clients passes : ℕ) (before : List ℕ) where
   drew : (s : St) (k : Kept s) (id i : ℕ) (v : View T) (d : Draw) (un : Option ℕ) (homes : List (Maybe (Option T))) → i < clients → clients ≤ 512 → 0 < length v.numbers → get_elem? s.views id ≡ some v → v.claim ≡ Some i → v.unmarked ≡ None
       → d.client ≡ i → d.place ≡ low s → IsTold k.cut d → ((j : ℕ) → is_client j un ≡ included_of j d)
       → length homes ≡ clients → ((j : ℕ) → j ≢ i → get_elem? homes j ≡ get_elem? s.homes j)
-      → Kept record { words = set s.words 0 (get_or s.words 0 0 + 1); homes = homes; views = set s.views id (view v.passes v.clients v.before v.numbers None un (v.draws ++ d ∷ []) v.values v.repeats v.closing v.looked v.taken v.right) }
+      → Kept record { words = set s.words 0 (get_or s.words 0 0 + 1); homes = homes; views = set s.views id (view v.passes v.clients v.before v.numbers None un (v.draws ++ d ∷ []) v.values v.repeats v.closing v.looked v.taken v.right v.refused v.closings) }
   drew s k id i v d un homes inside small live at claim unmarked_is client place is_told un_is wide same_home =
       let c : ℕ = get_or s.words 0 0 in
       let f = k.fits id v at in
-      let w : View T = view v.passes v.clients v.before v.numbers None un (v.draws ++ d ∷ []) v.values v.repeats v.closing v.looked v.taken v.right in
+      let w : View T = view v.passes v.clients v.before v.numbers None un (v.draws ++ d ∷ []) v.values v.repeats v.closing v.looked v.taken v.right v.refused v.closings in
       let here : get_or (set s.words 0 (c + 1)) 0 0 ≡ c + 1 = get_or-set_same s.words 0 (c + 1) 0 (omega (arith, k.wide)) in
       let there : (j : ℕ) → get_or (set s.words 0 (c + 1)) (j + 1) 0 ≡ get_or s.words (j + 1) 0 = λ j. get_or-set_other s.words 0 (j + 1) (c + 1) 0 (λ x. omega arith) in
       let same : (g : View T → ℕ) → g w ≡ g v → total g (set s.views id w) ≡ total g s.views = λ g q. omega (arith, total-set g s.views id v w at, q) in
@@ -214,6 +258,9 @@ module _ (T : Type 0) (clients passes : ℕ) (before : List ℕ) where
             (λ t. k.repeated id n' v q at (ap (λ l. get_elem? l n') (ap (λ (y : View T). y.repeats) t.1) ∙ b))
             (λ t. k.repeated j n' u q t.1 b)
             (at_set s.views id j w u a));
+        found = λ j o u q a b.
+            let before_it : q ≤ c = ⊎_elim (λ t. k.found id o v q at (ap (λ l. get_elem? l o) (ap (λ (y : View T). y.refused) t.1) ∙ b)) (λ t. k.found j o u q t.1 b) (at_set s.views id j w u a) in
+            omega (arith, here, before_it);
         free = λ j h z. dite (ℕ_discrete j i)
             (λ e. absurd (claimed_word s k id i v inside at claim (ap (λ (x : ℕ). get_or s.words (x + 1) 0) (sym e) ∙ sym (there j) ∙ z)))
             (λ ne. same_home j ne ∙ k.free j h (sym (there j) ∙ z));
@@ -236,6 +283,8 @@ module _ (T : Type 0) (clients passes : ℕ) (before : List ℕ) where
               closing = f.closing;
               marks = λ n'. omega (arith, f.marks n', un_is n', total-append (included_of n') v.draws (d ∷ []), ap (is_client n') unmarked_is);
               asked = f.asked;
+              made = f.made;
+              refused = f.refused;
               takes = f.takes;
               idle = λ z. absurd (omega arith);
             })
@@ -311,7 +360,7 @@ module _ (T : Type 0) (clients passes : ℕ) (before : List ℕ) where
 
   -- the word of client i becomes n, and the seat id goes from v to w, with the same draws
   client_step : (s : St) (k : Kept s) (id i n : ℕ) (v w : View T) (homes : List (Maybe (Option T))) → i < clients → get_elem? s.views id ≡ some v
-      → w.numbers ≡ v.numbers → w.draws ≡ v.draws → w.closing ≡ v.closing → w.right ≡ v.right
+      → w.numbers ≡ v.numbers → w.draws ≡ v.draws → w.closing ≡ v.closing → w.right ≡ v.right → w.refused ≡ v.refused
       → (n ≡ 1) ⊎ (n ≡ 3)
       → cond {A = ℕ} (is_some w.claim) 1 0 + is_set (get_or s.words (i + 1) 0) ≡ cond {A = ℕ} (is_some v.claim) 1 0 + is_set n
       → is_client i w.claim + is_set (get_or s.words (i + 1) 0) ≡ is_client i v.claim + is_set n
@@ -326,7 +375,7 @@ module _ (T : Type 0) (clients passes : ℕ) (before : List ℕ) where
       → ((o j : ℕ) (u : View T) (x : T) → get_elem? (set s.views id w) o ≡ some u → get_elem? u.values j ≡ some (i, x) → total (λ y. times i y.taken) (set s.views id w) ≡ 0 → get_elem? homes i ≡ some (some (Some x)))
       → Fits clients passes before k.cut w
       → Kept record { words = set s.words (i + 1) n; homes = homes; views = set s.views id w }
-  client_step s k id i n v w homes inside at nums drs cls rgt kind few_is claim_i claim_j puts_i puts_j reps wide same_home vals took_j lks marked_i kept_i fit =
+  client_step s k id i n v w homes inside at nums drs cls rgt refs kind few_is claim_i claim_j puts_i puts_j reps wide same_home vals took_j lks marked_i kept_i fit =
       let here : get_or (set s.words (i + 1) n) (i + 1) 0 ≡ n = get_or-set_same s.words (i + 1) n 0 (omega (arith, k.wide)) in
       let there : (j : ℕ) → j ≢ i → get_or (set s.words (i + 1) n) (j + 1) 0 ≡ get_or s.words (j + 1) 0 = λ j ne. get_or-set_other s.words (i + 1) (j + 1) n 0 (λ e. ne (omega arith)) in
       let ctrl : get_or (set s.words (i + 1) n) 0 0 ≡ get_or s.words 0 0 = get_or-set_other s.words (i + 1) 0 n 0 (λ e. omega arith) in
@@ -374,6 +423,10 @@ module _ (T : Type 0) (clients passes : ℕ) (before : List ℕ) where
             (λ t. ⊎_elim (λ y. k.repeated id o v q at y) (λ y. absurd (ne y)) (reps o q (ap (λ l. get_elem? l o) (ap (λ (y : View T). y.repeats) t.1) ∙ b)))
             (λ t. k.repeated j o u q t.1 b)
             (at_set s.views id j w u a)));
+        found = λ j o u q a b. subst (λ (x : ℕ). q ≤ x) (sym ctrl) (⊎_elim
+            (λ t. k.found id o v q at (ap (λ l. get_elem? l o) (sym refs ∙ ap (λ (y : View T). y.refused) t.1) ∙ b))
+            (λ t. k.found j o u q t.1 b)
+            (at_set s.views id j w u a));
         free = λ j h z. dite (ℕ_discrete j i)
             (λ e. absurd (not_zero (sym here ∙ ap (λ (x : ℕ). get_or (set s.words (i + 1) n) (x + 1) 0) (sym e) ∙ z)))
             (λ ne. same_home j ne ∙ k.free j h (sym (there j ne) ∙ z));
@@ -413,7 +466,7 @@ module _ (T : Type 0) (clients passes : ℕ) (before : List ℕ) where
             takes i None,
             k.free i inside z,
             subst (λ (x : ℕ). Kept (stepped s (i + 1) x id m.1 w (takes i None))) (sym up)
-                (client_step s k id i 1 v w (set s.homes i none) inside at refl refl refl refl (inl refl)
+                (client_step s k id i 1 v w (set s.homes i none) inside at refl refl refl refl refl (inl refl)
                 (omega (arith, unset, ap (λ o. cond {A = ℕ} (is_some o) 1 0) idle))
                 (omega (arith, unset, no_claim i, hit i i refl))
                 (λ j ne. miss i j (λ e. ne (sym e)) ∙ sym (no_claim j))
@@ -430,7 +483,7 @@ module _ (T : Type 0) (clients passes : ℕ) (before : List ℕ) where
                 (λ t. absurd (omega (arith, no_puts, term_le (puts i) s.views id v at, puts_one i j v.values x (ap (λ l. get_elem? l j) (ap (λ (y : View T). y.values) t.1) ∙ b))))
                 (λ t. absurd (omega (arith, no_puts, term_le (puts i) s.views o u t.1, puts_one i j u.values x b)))
                 (at_set s.views id o w u a))
-                record { limits = f.limits; told = f.told; inside = f.inside; ascending = f.ascending; below = f.below; numbered = f.numbered; closing = f.closing; marks = f.marks; asked = f.asked; takes = f.takes; idle = λ y. absurd (omega arith) }),
+                record { limits = f.limits; told = f.told; inside = f.inside; ascending = f.ascending; below = f.below; numbered = f.numbered; closing = f.closing; marks = f.marks; asked = f.asked; made = f.made; refused = f.refused; takes = f.takes; idle = λ y. absurd (omega arith) }),
             ((λ _. ap (λ (x : ℕ). (claimed v x, (x, None) ∷ m.1)) (sym back)), λ ne. absurd (ne z)),
           )
       by (no other) =
@@ -445,7 +498,7 @@ module _ (T : Type 0) (clients passes : ℕ) (before : List ℕ) where
             keeps,
             tt,
             subst (λ (x : ℕ). Kept (stepped s (i + 1) x id m.1 w keeps)) (sym same)
-                (client_step s k id i r v w s.homes inside at refl refl refl refl kind refl refl (λ j ne. refl) refl (λ j ne. refl)
+                (client_step s k id i r v w s.homes inside at refl refl refl refl refl kind refl refl (λ j ne. refl) refl (λ j ne. refl)
                 (λ j q e. ⊎_elim (λ t. inl t) (λ (t : (least v.numbers, i) ≡ q). inr (sym (ap (λ (x : ℕ × ℕ). x.1) t))) (at_snoc v.repeats (least v.numbers, i) q j e))
                 k.slots
                 (λ j ne. refl)
@@ -467,6 +520,8 @@ module _ (T : Type 0) (clients passes : ℕ) (before : List ℕ) where
                   closing = f.closing;
                   marks = f.marks;
                   asked = λ j q e. ⊎_elim (λ t. f.asked j q t) (λ (t : (least v.numbers, i) ≡ q). subst (λ (x : ℕ × ℕ). x.1 < clients) t inside) (at_snoc v.repeats (least v.numbers, i) q j e);
+                  made = f.made;
+                  refused = f.refused;
                   takes = f.takes;
                   idle = λ y. absurd (omega arith);
                 }),
@@ -513,7 +568,7 @@ module _ (T : Type 0) (clients passes : ℕ) (before : List ℕ) where
         gives,
         tt,
         subst (λ (y : ℕ × List (ℕ × Option T)). Kept (stepped s (i + 1) y.0 id y.1 w gives)) (λ h. (sym up h, sym out h))
-            (client_step s k id i 3 v w (set s.homes i (some (Some x))) inside at refl refl refl refl (inr refl)
+            (client_step s k id i 3 v w (set s.homes i (some (Some x))) inside at refl refl refl refl refl (inr refl)
             (omega (arith, set_it))
             (omega (arith, set_it))
             (λ j ne. refl)
@@ -533,7 +588,7 @@ module _ (T : Type 0) (clients passes : ℕ) (before : List ℕ) where
             (at_snoc v.values (i, x) (i, y) j (ap (λ l. get_elem? l j) (ap (λ (q : View T). q.values) t.1) ∙ b)))
             (λ t. absurd (omega (arith, none_put, term_le (puts i) s.views o u t.1, puts_one i j u.values y b)))
             (at_set s.views id o w u a))
-            record { limits = f.limits; told = f.told; inside = f.inside; ascending = f.ascending; below = f.below; numbered = f.numbered; closing = f.closing; marks = λ j. omega (arith, f.marks j, more j, ap (is_client j) pending); asked = f.asked; takes = f.takes; idle = λ y. absurd (omega arith) }),
+            record { limits = f.limits; told = f.told; inside = f.inside; ascending = f.ascending; below = f.below; numbered = f.numbered; closing = f.closing; marks = λ j. omega (arith, f.marks j, more j, ap (is_client j) pending); asked = f.asked; made = f.made; refused = f.refused; takes = f.takes; idle = λ y. absurd (omega arith) }),
         (λ y e. λ h. (marked v (sym back h) (ap (value_or x) (sym out ∙ e) h), carried_after (out h) gives)),
       )
 
@@ -595,7 +650,7 @@ module _ (T : Type 0) (clients passes : ℕ) (before : List ℕ) where
             w,
             takes i (Some x),
             home,
-            client_step s k id i (get_or s.words (i + 1) 0) v w (set s.homes i none) inside at refl refl refl refl (inr three) refl refl (λ j ne. refl) refl (λ j ne. refl)
+            client_step s k id i (get_or s.words (i + 1) 0) v w (set s.homes i none) inside at refl refl refl refl refl (inr three) refl refl (λ j ne. refl) refl (λ j ne. refl)
                 (λ j q e. inl e)
                 (length-set s.homes i none ∙ k.slots)
                 (λ j ne. set_else s.homes i j none ne)
@@ -604,7 +659,7 @@ module _ (T : Type 0) (clients passes : ℕ) (before : List ℕ) where
                 refl
                 (λ p. three)
                 (λ o j u y a b c. absurd (omega (arith, now, c)))
-                record { limits = f.limits; told = f.told; inside = f.inside; ascending = f.ascending; below = f.below; numbered = f.numbered; closing = f.closing; marks = f.marks; asked = f.asked; takes = λ q. absurd (omega (arith, q, has)); idle = λ y. absurd (omega arith) },
+                record { limits = f.limits; told = f.told; inside = f.inside; ascending = f.ascending; below = f.below; numbered = f.numbered; closing = f.closing; marks = f.marks; asked = f.asked; made = f.made; refused = f.refused; takes = λ q. absurd (omega (arith, q, has)); idle = λ y. absurd (omega arith) },
             (
               (λ ne. absurd (ne three)),
               (λ _. (x, ap (λ (c : ℕ). (took v c, (c, Some x) ∷ m.1)) (sym back), λ j y e. same_value x y home (k.kept i id j v y at (e ∙ ap (λ (c : ℕ). some (c, y)) back) none_taken))),
@@ -641,6 +696,7 @@ module _ (T : Type 0) (clients passes : ℕ) (before : List ℕ) where
           marked = k.marked;
           stays = k.stays;
           repeated = k.repeated;
+          found = k.found;
           free = λ j h z. dite (ℕ_discrete j i)
               (λ e. ap (λ (c : ℕ). get_elem? (set s.homes i (some None)) c) e ∙ set_here s.homes i (some None) (omega (arith, inside, k.slots)))
               (λ ne. set_else s.homes i j (some None) ne ∙ k.free j h z);
@@ -683,13 +739,14 @@ module _ (T : Type 0) (clients passes : ℕ) (before : List ℕ) where
             (λ (e : (j ≡ c) × (r ≡ 3)). ap (λ (x : ℕ). get_or s.words (x + 1) 0) e.0 ∙ found ∙ e.1)
             (marked_at_it j c r);
         repeated = λ j o u q a b. ⊎_elim (λ t. k.repeated id o v q at (ap (λ l. get_elem? l o) (ap (λ (y : View T). y.repeats) t.1) ∙ b)) (λ t. k.repeated j o u q t.1 b) (at_set s.views id j w u a);
+        found = λ j o u q a b. ⊎_elim (λ t. k.found id o v q at (ap (λ l. get_elem? l o) (ap (λ (y : View T). y.refused) t.1) ∙ b)) (λ t. k.found j o u q t.1 b) (at_set s.views id j w u a);
         free = k.free;
         kept = λ i o j u x a b z. let z' : total (λ y. times i y.taken) s.views ≡ 0 = sym (same (λ y. times i y.taken) refl) ∙ z in ⊎_elim
             (λ t. k.kept i id j v x at (ap (λ l. get_elem? l j) (ap (λ (y : View T). y.values) t.1) ∙ b) z')
             (λ t. k.kept i o j u x t.1 b z')
             (at_set s.views id o w u a);
         fits = λ j u q. ⊎_elim
-            (λ t. subst (Fits clients passes before k.cut) t.1 record { limits = f.limits; told = f.told; inside = f.inside; ascending = f.ascending; below = f.below; numbered = f.numbered; closing = f.closing; marks = f.marks; asked = f.asked; takes = f.takes; idle = λ y. absurd (omega arith) })
+            (λ t. subst (Fits clients passes before k.cut) t.1 record { limits = f.limits; told = f.told; inside = f.inside; ascending = f.ascending; below = f.below; numbered = f.numbered; closing = f.closing; marks = f.marks; asked = f.asked; made = f.made; refused = f.refused; takes = f.takes; idle = λ y. absurd (omega arith) })
             (λ t. k.fits j u t.1)
             (at_set s.views id j w u q);
       }
@@ -745,11 +802,16 @@ module _ (T : Type 0) (clients passes : ℕ) (before : List ℕ) where
         once = λ i h. omega (arith, k.claimed i (omega (arith, h, lim.0)), drawn i, claim i, ap (λ b. was b i) lim.2, set_most (get_or s.words (i + 1) 0));
         repeats = λ j q e. omega (arith, k.claimed q.1 (f.asked j q e), drawn q.1, claim q.1, ap (λ b. was b q.1) lim.2, set_one (get_or s.words (q.1 + 1) 0) (k.repeated id j v q at e));
         values = λ i. omega (arith, f.marks i, ap (is_client i) idle.1);
+        refused = λ j x e. (subst (λ o. IsShut o x) cut_is (f.refused j x e), omega (arith, k.found id j v x at e, k.control, lows, closed_most k.cut));
       }
     where
       nothing : (i : ℕ) (ds : List Draw) → length ds ≡ 0 → total (of_client i) ds ≡ 0
       nothing i [] e = refl
       nothing i (d ∷ ds) e = absurd (omega arith)
+
+      closed_most : (o : Option ℕ) → cond {A = ℕ} (is_some o) closed 0 ≤ closed
+      closed_most None = omega arith
+      closed_most (Some n) = omega arith
 
       set_one : (r : ℕ) → 0 < r → is_set r ≡ 1
       set_one r h = ap (λ (b : Bool). cond {A = ℕ} b 0 1) (ne_eqb r 0 (λ e. omega arith))
@@ -766,7 +828,7 @@ module _ (T : Type 0) (clients passes : ℕ) (before : List ℕ) where
     keeps,
     tt,
     subst (λ (x : List ℕ × List (View T)). Kept record { words = x.0; homes = s.homes; views = x.1 }) (λ h. (sym (set-get_or s.words 0 0) h, sym (set_again s.views id m.0 at) h)) k,
-    (refl, (k.fits id m.0 at).ascending, (λ all idle. window_of s k id m.0 live at all idle), omega (arith, k.rights, cut_most k.cut, term_le (λ u. u.right) s.views id m.0 at), (k.fits id m.0 at).takes, most m.0.closing (k.fits id m.0 at).closing),
+    (refl, (k.fits id m.0 at).ascending, (λ all idle. window_of s k id m.0 live at all idle), omega (arith, k.rights, cut_most k.cut, term_le (λ u. u.right) s.views id m.0 at), (k.fits id m.0 at).takes, most m.0.closing (k.fits id m.0 at).closing, (k.fits id m.0 at).made),
   )
     where
       lim : (m.0.clients ≡ clients) × (m.0.passes ≡ passes) × (m.0.before ≡ before)

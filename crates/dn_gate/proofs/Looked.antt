@@ -12,10 +12,10 @@ use Rattle.dn_gate.proofs.Marks.{once_most, once_yes, many_le, many_more}
 
 module _ {T : Type 0} where
   pub looked_none : (m : At T) → m.1 ≡ [] → m ≡ (looked_all m.0 [], [])
-  looked_none m e = λ j. (view m.0.passes m.0.clients m.0.before m.0.numbers m.0.claim m.0.unmarked m.0.draws m.0.values m.0.repeats m.0.closing (sym (append-nil m.0.looked) j) m.0.taken m.0.right, e j)
+  looked_none m e = λ j. (view m.0.passes m.0.clients m.0.before m.0.numbers m.0.claim m.0.unmarked m.0.draws m.0.values m.0.repeats m.0.closing (sym (append-nil m.0.looked) j) m.0.taken m.0.right m.0.refused m.0.closings, e j)
 
   pub looked_more : (v : View T) (m n : At T) (found : List (ℕ × ℕ)) (i r : ℕ) → m ≡ (looked_all v found, []) → n ≡ (looked_at m.0 i r, m.1) → n ≡ (looked_all v (found ++ (i, r) ∷ []), [])
-  looked_more v m n found i r e d = d ∙ ap (λ (x : At T). (looked_at x.0 i r, x.1)) e ∙ (λ j. (view v.passes v.clients v.before v.numbers v.claim v.unmarked v.draws v.values v.repeats v.closing (append_assoc v.looked found ((i, r) ∷ []) j) v.taken v.right, []))
+  looked_more v m n found i r e d = d ∙ ap (λ (x : At T). (looked_at x.0 i r, x.1)) e ∙ (λ j. (view v.passes v.clients v.before v.numbers v.claim v.unmarked v.draws v.values v.repeats v.closing (append_assoc v.looked found ((i, r) ∷ []) j) v.taken v.right v.refused v.closings, []))
 
   pub marks_more : (v : View T) (n : ℕ) → marks_upto v (n + 1) ≡ marks_upto v n + puts n v
   marks_more v n = let e : n + 1 ≡ suc n = omega arith in ap (marks_upto v) e

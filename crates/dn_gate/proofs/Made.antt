@@ -6,7 +6,7 @@ use lib.ListN.{get_elem?}
 use native.Mathlib.Decide.{ℕ_discrete}
 use Rattle.atomic_table.specs.Table.{Splits}
 use Rattle.dn_gate.specs.Opening.{range}
-use Rattle.dn_gate.specs.Rule.{At, view, first_only, after_first, without_first, of_first, IsKept, was, times}
+use Rattle.dn_gate.specs.Rule.{At, view, first_only, after_first, without_first, of_first, IsKept, has_closing, was, times}
 use Rattle.dn_gate.specs.Pass.{GateId, PassView, pass_view, IsPass, IsFresh, IsNew}
 use Rattle.atomic_table.specs.Seated.{TableId}
 use Rattle.dn_gate.specs.declared.view.View.{View}
@@ -60,7 +60,7 @@ module _ {T : Type 0} where
 
   -- a view that has done nothing
   abbrev pub idle_view : ℕ → ℕ → List ℕ → List ℕ → View T
-  idle_view passes clients before numbers = view passes clients before numbers None None [] [] [] None [] [] 0
+  idle_view passes clients before numbers = view passes clients before numbers None None [] [] [] None [] [] 0 [] 0
 
   pub cuts_at : (clients p : ℕ) (b : List ℕ) (id passes n k c : ℕ) (d : List ℕ) (m : At T) → m ≡ (idle_view passes c d (range n k), []) → 1 < k
       → Splits (IsKept {T = T} clients p b) id m.0 (without_first m.0) (of_first m.0)
@@ -73,13 +73,14 @@ module _ {T : Type 0} where
     least_is = sym (ap (λ (x : At T). Rattle.dn_gate.specs.Rule.least x.0.numbers) e);
     empty = λ _. ap (λ (x : At T). x.1) e;
     ascends = λ i j x y lt a b. absurd (some-ne-none x (sym a ∙ ap (λ (q : At T). get_elem? q.0.draws i) e));
+    made = ap (λ (x : At T). x.0.closings) e ∙ sym (ap (λ (x : At T). has_closing x.0) e);
   }
 
   pub made_fresh : (table own : TableId) (id passes clients n : ℕ) (b : List ℕ) (m : At T) → own ≡ table → m ≡ (idle_view passes clients b (n ∷ []), []) → IsFresh record { table = table; clients = clients; passes = passes; before = b } n (pass_view own id m)
   made_fresh table own id passes clients n b m t e = record {
     gate_is = λ i. record { table = t i; clients = (e i).0.clients; passes = (e i).0.passes; before = (e i).0.before };
     numbers = ap (λ (x : At T). x.0.numbers) e;
-    nothing = (ap (λ (x : At T). x.0.draws) e, ap (λ (x : At T). x.0.values) e, ap (λ (x : At T). x.0.repeats) e, ap (λ (x : At T). x.0.closing) e, ap (λ (x : At T). x.0.claim) e, ap (λ (x : At T). x.0.unmarked) e, ap (λ (x : At T). x.0.looked) e, ap (λ (x : At T). x.0.taken) e);
+    nothing = (ap (λ (x : At T). x.0.draws) e, ap (λ (x : At T). x.0.values) e, ap (λ (x : At T). x.0.repeats) e, ap (λ (x : At T). x.0.closing) e, ap (λ (x : At T). x.0.claim) e, ap (λ (x : At T). x.0.unmarked) e, ap (λ (x : At T). x.0.looked) e, ap (λ (x : At T). x.0.taken) e, ap (λ (x : At T). x.0.refused) e);
   }
 
   pub first_cut : (passes clients n k : ℕ) (b : List ℕ) (m n' : At T) → 0 < k → m ≡ (idle_view passes clients b (range n k), []) → n' ≡ (of_first m.0, []) → n' ≡ (idle_view passes clients b (n ∷ []), [])

@@ -20,14 +20,17 @@ merge-none (d ∷ ds) up =
 module _ {T : Type 0} where
   -- a pass that looked at words, with the right
   abbrev pub with_right : View T → List (ℕ × ℕ) → ℕ → View T
-  with_right v found n = view v.passes v.clients v.before v.numbers v.claim v.unmarked v.draws v.values v.repeats v.closing (v.looked ++ found) v.taken n
+  with_right v found n = view v.passes v.clients v.before v.numbers v.claim v.unmarked v.draws v.values v.repeats v.closing (v.looked ++ found) v.taken n v.refused v.closings
 
   -- a pass takes in the right of a closing
   pub handed : (v : View T) (found : List (ℕ × ℕ)) (w : At T) → Ascends v.draws → IsRight w → joined (looked_all v found) w.0 ≡ with_right v found (v.right + 1)
   handed v found w up is =
       ap (λ (x : At T). joined (looked_all v found) x.0) is
-      ∙ (λ j. view v.passes v.clients v.before (append-nil v.numbers j) v.claim v.unmarked (merge-none v.draws up j) (append-nil v.values j) (append-nil v.repeats j) (none_too v.closing j) (append-nil (v.looked ++ found) j) (append-nil v.taken j) (v.right + 1))
+      ∙ (λ j. view v.passes v.clients v.before (append-nil v.numbers j) v.claim v.unmarked (merge-none v.draws up j) (append-nil v.values j) (append-nil v.repeats j) (none_too v.closing j) (append-nil (v.looked ++ found) j) (append-nil v.taken j) (v.right + 1) (append-nil v.refused j) (no_more v.closings j))
     where
+      no_more : (n : ℕ) → n + 0 ≡ n
+      no_more n = omega arith
+
       none_too : (o : Option ℕ) → Rattle.dn_gate.specs.Rule.either_one o None ≡ o
       none_too None = refl
       none_too (Rattle.std.proofs.Common.Some n) = refl

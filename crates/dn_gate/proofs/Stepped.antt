@@ -5,7 +5,7 @@ use native.Mathlib.Decide.{dec_le}
 use mathlib.Core.Option.{none}
 use Rattle.atomic_table.specs.Table.{Step, step, rest}
 use Rattle.atomic_table.specs.Seated.{TableId}
-use Rattle.dn_gate.specs.Rule.{At, closed, drew_in, drew_late, marked, least, Ascends, Draws, Marks}
+use Rattle.dn_gate.specs.Rule.{At, closed, drew_in, drew_late, marked, least, has_closing, Ascends, Draws, Marks}
 use Rattle.dn_gate.specs.Pass.{PassView, pass_view, included, IsPass}
 
 module _ {T : Type 0} where
@@ -13,10 +13,10 @@ module _ {T : Type 0} where
   drew_pass st m n i found number p claim out told = dite (dec_le closed found)
       (λ le.
       let is : n ≡ (drew_late m.0 i found, rest m.1) = (told.0 i claim).1 le in
-      record { live = subst (λ (x : At T). 0 < length x.0.numbers) (sym is) p.live; least_is = p.least_is ∙ sym (ap (λ (x : At T). least x.0.numbers) is); empty = λ _. ap (λ (x : At T). x.1) is ∙ ap rest out; ascends = told.1 })
+      record { live = subst (λ (x : At T). 0 < length x.0.numbers) (sym is) p.live; least_is = p.least_is ∙ sym (ap (λ (x : At T). least x.0.numbers) is); empty = λ _. ap (λ (x : At T). x.1) is ∙ ap rest out; ascends = told.1; made = ap (λ (x : At T). x.0.closings) is ∙ p.made ∙ sym (ap (λ (x : At T). has_closing x.0) is) })
       (λ gt.
       let is : n ≡ (drew_in m.0 i found, m.1) = ((told.0 i claim).0 (omega arith)).1 in
-      record { live = subst (λ (x : At T). 0 < length x.0.numbers) (sym is) p.live; least_is = p.least_is ∙ sym (ap (λ (x : At T). least x.0.numbers) is); empty = λ idle. absurd (pending (sym (ap (λ (x : At T). x.0.unmarked) is) ∙ idle.1)); ascends = told.1 })
+      record { live = subst (λ (x : At T). 0 < length x.0.numbers) (sym is) p.live; least_is = p.least_is ∙ sym (ap (λ (x : At T). least x.0.numbers) is); empty = λ idle. absurd (pending (sym (ap (λ (x : At T). x.0.unmarked) is) ∙ idle.1)); ascends = told.1; made = ap (λ (x : At T). x.0.closings) is ∙ p.made ∙ sym (ap (λ (x : At T). has_closing x.0) is) })
     where
       pending : Some i ≡ None → ⊥
       pending e = cc
@@ -32,6 +32,7 @@ module _ {T : Type 0} where
     least_is = p.least_is ∙ sym (ap (λ (y : At T). least y.0.numbers) is);
     empty = λ _. ap (λ (y : At T). y.1) is;
     ascends = subst (λ (y : At T). Ascends y.0.draws) (sym is) p.ascends;
+    made = ap (λ (y : At T). y.0.closings) is ∙ p.made ∙ sym (ap (λ (y : At T). has_closing y.0) is);
   }
 
   pub marked_view : (t t' : TableId) (s s' : ℕ) (m q : At T) (p : PassView T) (i : ℕ) (x : T) → pass_view t s m ≡ p → t' ≡ t → s' ≡ s → q ≡ (marked m.0 i x, [])

@@ -19,7 +19,7 @@ module _ {T : Type 0} where
 
   -- after the values of these clients were taken
   abbrev pub took_all : View T → List ℕ → View T
-  took_all v cs = view v.passes v.clients v.before v.numbers v.claim v.unmarked v.draws v.values v.repeats v.closing v.looked (v.taken ++ cs) v.right
+  took_all v cs = view v.passes v.clients v.before v.numbers v.claim v.unmarked v.draws v.values v.repeats v.closing v.looked (v.taken ++ cs) v.right v.refused v.closings
 
   abbrev pub KnowsPuts : View T → ℕ → ℕ → Type 0
   KnowsPuts v i n = length v.numbers ≡ v.passes → puts i v ≡ n

@@ -1,5 +1,5 @@
 -- The one history of a gate: what a pass that stands for all knows that its passes were told, in one order.
-use Rattle.std.specs.Prelude.{◌≡◌, ℕ, ◌≤◌, List, ◌∷◌, ◌++◌, ◌==◌, length, map, count_by, take, drop, Option, Some, None, IfSome}
+use Rattle.std.specs.Prelude.{◌≡◌, ℕ, ◌≤◌, ◌+◌, List, ◌∷◌, ◌++◌, ◌==◌, length, map, count_by, take, drop, Option, Some, None, IfSome}
 use Rattle.std.specs.List.{range_with_len}
 use Rattle.dn_told.specs.declared.told.WindowTold.{WindowTold}
 use Rattle.dn_told.specs.declared.told.WindowTold.TheVariants.{Included, Late, Repeat}
@@ -7,6 +7,9 @@ use Rattle.dn_told.specs.Window.{WindowEvent, Submit, Close, answers, included}
 use Rattle.dn_gate.specs.Draws.{Draw}
 use Rattle.dn_gate.specs.Order.{with_number, in_order}
 use Rattle.dn_gate.specs.Pass.{PassView}
+use Rattle.dn_gate.specs.Rule.{closed, IsShut}
+use mathlib.Core.Option.{some}
+use lib.ListN.{get_elem?}
 
 abbrev pub submissions : List Draw → List WindowEvent
 submissions = map (λ d. Submit d.client)
@@ -42,5 +45,7 @@ module _ {T : Type 0} where
     pub cut : IfSome p.closing (λ count. count ≤ length p.draws)
     -- each repeat is in it once, and those of one pass are in their order
     pub repeats : (number : ℕ) → with_number number (repeats_of p) ≡ with_number number p.repeats
+    -- a close that was refused found the gate closed: one of its passes made the closing
+    pub refused : (j w : ℕ) → get_elem? p.refused j ≡ some w → IsShut p.closing w × (w ≤ closed + length p.draws)
     -- the clients that put a value are those that were told Included
     pub values : (client : ℕ) → length (with_number client p.values) ≡ count_by (λ i. i == client) (included p.gate.before (history p))

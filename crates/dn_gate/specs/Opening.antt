@@ -8,4 +8,4 @@ range n zero = []
 range n (suc k) = n ∷ range (n + 1) k
 
 abbrev pub opens : {T : Type 0} → ℕ → ℕ → List ℕ → View T
-opens clients passes before = view passes clients before (range 0 passes) None None [] [] [] None [] [] 0
+opens clients passes before = view passes clients before (range 0 passes) None None [] [] [] None [] [] 0 [] 0

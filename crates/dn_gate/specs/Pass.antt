@@ -3,7 +3,7 @@ use Rattle.std.specs.Prelude.{◌≡◌, ℕ, ◌-◌, ◌<◌, List, [], ◌∷
 use Rattle.atomic_table.specs.Seated.{TableId}
 use Rattle.atomic_table.specs.Table.{Me}
 use Rattle.dn_gate.specs.Draws.{Draw}
-use Rattle.dn_gate.specs.Rule.{closed, least, view, Ascends, IsIdle}
+use Rattle.dn_gate.specs.Rule.{closed, least, view, has_closing, Ascends, IsIdle}
 use Rattle.dn_gate.specs.declared.view.View.{View}
 use Rattle.dn_wire.specs.declared.ids.ClientId.{ClientId}
 
@@ -33,6 +33,7 @@ pub record PassView (T : Type 0) : Type 0 where
   pub held : List (ℕ × Option T)
   pub looked : List (ℕ × ℕ)
   pub taken : List ℕ
+  pub refused : List ℕ
 
 -- a closing: its gate, and how many draws there were before
 pub record ClosingView : Type 0 where
@@ -51,7 +52,7 @@ module _ {T : Type 0} where
 
   abbrev pub pass_view : TableId → ℕ → Me (Option T) (View T) → PassView T
   pass_view table seat m =
-      record { gate = gate_of table m.0; seat = seat; numbers = m.0.numbers; draws = m.0.draws; values = m.0.values; repeats = m.0.repeats; closing = m.0.closing; claim = m.0.claim; unmarked = m.0.unmarked; held = m.1; looked = m.0.looked; taken = m.0.taken }
+      record { gate = gate_of table m.0; seat = seat; numbers = m.0.numbers; draws = m.0.draws; values = m.0.values; repeats = m.0.repeats; closing = m.0.closing; claim = m.0.claim; unmarked = m.0.unmarked; held = m.1; looked = m.0.looked; taken = m.0.taken; refused = m.0.refused }
 
   -- not in mid-call
   abbrev pub IsReady : PassView T → Type 0
@@ -63,6 +64,7 @@ module _ {T : Type 0} where
     pub least_is : number ≡ least me.0.numbers
     pub empty : IsIdle me.0 → me.1 ≡ []
     pub ascends : Ascends me.0.draws
+    pub made : me.0.closings ≡ has_closing me.0
 
   abbrev pub IsSamePass : PassView T → PassView T → Type 0
   IsSamePass p q = (q.gate ≡ p.gate) × (q.seat ≡ p.seat) × (q.numbers ≡ p.numbers) × (q.looked ≡ p.looked) × (q.taken ≡ p.taken)
@@ -73,17 +75,17 @@ module _ {T : Type 0} where
 
   -- what a closing keeps: the right to take values, and nothing else
   abbrev pub IsRight : Me (Option T) (View T) → Type 0
-  IsRight me = me ≡ (view me.0.passes me.0.clients me.0.before [] None None [] [] [] None [] [] 1, [])
+  IsRight me = me ≡ (view me.0.passes me.0.clients me.0.before [] None None [] [] [] None [] [] 1 [] 0, [])
 
   -- a pass's view again
   abbrev pub as_view : PassView T → View T
-  as_view p = view p.gate.passes p.gate.clients p.gate.before p.numbers p.claim p.unmarked p.draws p.values p.repeats p.closing p.looked p.taken 0
+  as_view p = view p.gate.passes p.gate.clients p.gate.before p.numbers p.claim p.unmarked p.draws p.values p.repeats p.closing p.looked p.taken 0 p.refused 0
 
   -- pass i, as `make` gives it
   pub record IsFresh (gate : GateId) (i : ℕ) (p : PassView T) : Type 0 where
     pub gate_is : p.gate ≡ gate
     pub numbers : p.numbers ≡ i ∷ []
-    pub nothing : (p.draws ≡ []) × (p.values ≡ []) × (p.repeats ≡ []) × (p.closing ≡ None) × (p.claim ≡ None) × (p.unmarked ≡ None) × (p.looked ≡ []) × (p.taken ≡ [])
+    pub nothing : (p.draws ≡ []) × (p.values ≡ []) × (p.repeats ≡ []) × (p.closing ≡ None) × (p.claim ≡ None) × (p.unmarked ≡ None) × (p.looked ≡ []) × (p.taken ≡ []) × (p.refused ≡ [])
 
   -- a pass that took no part in a closing
   abbrev pub IsNew : GateId → PassView T → Type 0

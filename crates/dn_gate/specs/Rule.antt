@@ -72,6 +72,10 @@ IsBefore place (Some count) = place < count
 abbrev pub IsTold : Option ℕ → Draw → Type 0
 IsTold cut d = MatchOption d.late (IsBefore d.place cut) (λ seen. (closed ≤ seen) × ((count : ℕ) × (cut ≡ Some count) × (count ≤ d.place)))
 
+-- the control word after a closing: its bit, and at least the closing's count of draws
+abbrev pub IsShut : Option ℕ → ℕ → Type 0
+IsShut cut w = (count : ℕ) × (cut ≡ Some count) × (closed + count ≤ w)
+
 -- draws of two passes, by place
 abbrev pub insert_draw : Draw → List Draw → List Draw
 insert_draw d [] = d ∷ []
@@ -98,57 +102,61 @@ abbrev pub At : Type 0 → Type 0
 At T = Me (Option T) (View T)
 
 module _ {T : Type 0} where
-  abbrev pub view : ℕ → ℕ → List ℕ → List ℕ → Option ℕ → Option ℕ → List Draw → List (ℕ × T) → List (ℕ × ℕ) → Option ℕ → List (ℕ × ℕ) → List ℕ → ℕ → View T
-  view passes clients before numbers claim unmarked draws values repeats closing looked taken right =
-      record { marker = record {}; passes = passes; clients = clients; before = before; numbers = numbers; claim = claim; unmarked = unmarked; draws = draws; values = values; repeats = repeats; closing = closing; looked = looked; taken = taken; right = right }
+  abbrev pub view : ℕ → ℕ → List ℕ → List ℕ → Option ℕ → Option ℕ → List Draw → List (ℕ × T) → List (ℕ × ℕ) → Option ℕ → List (ℕ × ℕ) → List ℕ → ℕ → List ℕ → ℕ → View T
+  view passes clients before numbers claim unmarked draws values repeats closing looked taken right refused closings =
+      record { marker = record {}; passes = passes; clients = clients; before = before; numbers = numbers; claim = claim; unmarked = unmarked; draws = draws; values = values; repeats = repeats; closing = closing; looked = looked; taken = taken; right = right; refused = refused; closings = closings }
 
   abbrev pub joined : View T → View T → View T
-  joined v w = view v.passes v.clients v.before (v.numbers ++ w.numbers) v.claim v.unmarked (merge_draws v.draws w.draws) (v.values ++ w.values) (v.repeats ++ w.repeats) (either_one v.closing w.closing) (v.looked ++ w.looked) (v.taken ++ w.taken) (v.right + w.right)
+  joined v w = view v.passes v.clients v.before (v.numbers ++ w.numbers) v.claim v.unmarked (merge_draws v.draws w.draws) (v.values ++ w.values) (v.repeats ++ w.repeats) (either_one v.closing w.closing) (v.looked ++ w.looked) (v.taken ++ w.taken) (v.right + w.right) (v.refused ++ w.refused) (v.closings + w.closings)
 
   abbrev pub spent : View T
-  spent = view 0 0 [] [] None None [] [] [] None [] [] 0
+  spent = view 0 0 [] [] None None [] [] [] None [] [] 0 [] 0
 
   -- the first number goes to a new pass
   abbrev pub without_first : View T → View T
-  without_first v = view v.passes v.clients v.before (after_first v.numbers) v.claim v.unmarked v.draws v.values v.repeats v.closing v.looked v.taken v.right
+  without_first v = view v.passes v.clients v.before (after_first v.numbers) v.claim v.unmarked v.draws v.values v.repeats v.closing v.looked v.taken v.right v.refused v.closings
 
   abbrev pub of_first : View T → View T
-  of_first v = view v.passes v.clients v.before (first_only v.numbers) None None [] [] [] None [] [] 0
+  of_first v = view v.passes v.clients v.before (first_only v.numbers) None None [] [] [] None [] [] 0 [] 0
 
   -- the right goes to a closing
   abbrev pub without_right : View T → View T
-  without_right v = view v.passes v.clients v.before v.numbers v.claim v.unmarked v.draws v.values v.repeats v.closing v.looked v.taken 0
+  without_right v = view v.passes v.clients v.before v.numbers v.claim v.unmarked v.draws v.values v.repeats v.closing v.looked v.taken 0 v.refused v.closings
 
   abbrev pub of_right : View T → View T
-  of_right v = view v.passes v.clients v.before [] None None [] [] [] None [] [] v.right
+  of_right v = view v.passes v.clients v.before [] None None [] [] [] None [] [] v.right [] 0
 
   abbrev pub claimed : View T → ℕ → View T
-  claimed v i = view v.passes v.clients v.before v.numbers (Some i) v.unmarked v.draws v.values v.repeats v.closing v.looked v.taken v.right
+  claimed v i = view v.passes v.clients v.before v.numbers (Some i) v.unmarked v.draws v.values v.repeats v.closing v.looked v.taken v.right v.refused v.closings
 
   abbrev pub repeated : View T → ℕ → View T
-  repeated v i = view v.passes v.clients v.before v.numbers v.claim v.unmarked v.draws v.values (v.repeats ++ (least v.numbers, i) ∷ []) v.closing v.looked v.taken v.right
+  repeated v i = view v.passes v.clients v.before v.numbers v.claim v.unmarked v.draws v.values (v.repeats ++ (least v.numbers, i) ∷ []) v.closing v.looked v.taken v.right v.refused v.closings
 
   abbrev pub drew_in : View T → ℕ → ℕ → View T
-  drew_in v i place = view v.passes v.clients v.before v.numbers None (Some i) (v.draws ++ record { place = place; client = i; late = None } ∷ []) v.values v.repeats v.closing v.looked v.taken v.right
+  drew_in v i place = view v.passes v.clients v.before v.numbers None (Some i) (v.draws ++ record { place = place; client = i; late = None } ∷ []) v.values v.repeats v.closing v.looked v.taken v.right v.refused v.closings
 
   abbrev pub drew_late : View T → ℕ → ℕ → View T
-  drew_late v i seen = view v.passes v.clients v.before v.numbers None None (v.draws ++ record { place = seen - closed; client = i; late = Some seen } ∷ []) v.values v.repeats v.closing v.looked v.taken v.right
+  drew_late v i seen = view v.passes v.clients v.before v.numbers None None (v.draws ++ record { place = seen - closed; client = i; late = Some seen } ∷ []) v.values v.repeats v.closing v.looked v.taken v.right v.refused v.closings
 
   abbrev pub closed_at : View T → ℕ → View T
-  closed_at v count = view v.passes v.clients v.before v.numbers v.claim v.unmarked v.draws v.values v.repeats (Some count) v.looked v.taken 1
+  closed_at v count = view v.passes v.clients v.before v.numbers v.claim v.unmarked v.draws v.values v.repeats (Some count) v.looked v.taken 1 v.refused 1
+
+  -- a close found the gate closed
+  abbrev pub refused_at : View T → ℕ → View T
+  refused_at v found = view v.passes v.clients v.before v.numbers v.claim v.unmarked v.draws v.values v.repeats v.closing v.looked v.taken v.right (v.refused ++ found ∷ []) v.closings
 
   abbrev pub marked : View T → ℕ → T → View T
-  marked v i x = view v.passes v.clients v.before v.numbers v.claim None v.draws (v.values ++ (i, x) ∷ []) v.repeats v.closing v.looked v.taken v.right
+  marked v i x = view v.passes v.clients v.before v.numbers v.claim None v.draws (v.values ++ (i, x) ∷ []) v.repeats v.closing v.looked v.taken v.right v.refused v.closings
 
   abbrev pub took : View T → ℕ → View T
-  took v i = view v.passes v.clients v.before v.numbers v.claim v.unmarked v.draws v.values v.repeats v.closing v.looked (v.taken ++ i ∷ []) v.right
+  took v i = view v.passes v.clients v.before v.numbers v.claim v.unmarked v.draws v.values v.repeats v.closing v.looked (v.taken ++ i ∷ []) v.right v.refused v.closings
 
   abbrev pub looked_at : View T → ℕ → ℕ → View T
-  looked_at v i found = view v.passes v.clients v.before v.numbers v.claim v.unmarked v.draws v.values v.repeats v.closing (v.looked ++ (i, found) ∷ []) v.taken v.right
+  looked_at v i found = view v.passes v.clients v.before v.numbers v.claim v.unmarked v.draws v.values v.repeats v.closing (v.looked ++ (i, found) ∷ []) v.taken v.right v.refused v.closings
 
   -- after looks that found these
   abbrev pub looked_all : View T → List (ℕ × ℕ) → View T
-  looked_all v found = view v.passes v.clients v.before v.numbers v.claim v.unmarked v.draws v.values v.repeats v.closing (v.looked ++ found) v.taken v.right
+  looked_all v found = view v.passes v.clients v.before v.numbers v.claim v.unmarked v.draws v.values v.repeats v.closing (v.looked ++ found) v.taken v.right v.refused v.closings
 
   abbrev pub claims : ℕ → View T → ℕ
   claims i v = is_client i v.claim
@@ -179,9 +187,12 @@ module _ {T : Type 0} where
     pub below : (j n : ℕ) → get_elem? v.numbers j ≡ some n → n < passes
     pub numbered : (j : ℕ) (p : ℕ × ℕ) → get_elem? v.repeats j ≡ some p → p.0 < passes
     pub closing : IfSome v.closing (λ count. cut ≡ Some count)
+    pub made : v.closings ≡ has_closing v
     -- a view marks what it drew, and has all its included draws marked but the one of a call that goes on
     pub marks : (i : ℕ) → puts i v + is_client i v.unmarked ≡ includes i v
     pub asked : (j : ℕ) (p : ℕ × ℕ) → get_elem? v.repeats j ≡ some p → p.1 < clients
+    -- a close that was refused found a word that the closing had left
+    pub refused : (j w : ℕ) → get_elem? v.refused j ≡ some w → IsShut cut w
     -- who took a value has the right to
     pub takes : v.right ≡ 0 → length v.taken ≡ 0
     pub idle : length v.numbers ≡ 0 → (length v.draws ≡ 0) × (length v.values ≡ 0) × (length v.repeats ≡ 0) × (v.closing ≡ None) × (v.claim ≡ None)
@@ -207,6 +218,8 @@ module _ {T : Type 0} where
     pub stays : (i : ℕ) → i < clients → 0 < total (sees i) s.views → slice_index s.words (i + 1) ≡ 3
     -- a repeat is of a client that was there or has its claim or its draw
     pub repeated : (j k : ℕ) (v : View T) (p : ℕ × ℕ) → get_elem? s.views j ≡ some v → get_elem? v.repeats k ≡ some p → 0 < slice_index s.words (p.1 + 1)
+    -- a close that was refused found no more than the control word has
+    pub found : (j k : ℕ) (v : View T) (w : ℕ) → get_elem? s.views j ≡ some v → get_elem? v.refused k ≡ some w → w ≤ slice_index s.words 0
     -- a client that is free has an empty slot at home, and one that is marked its value, unless it was taken
     pub free : (i : ℕ) → i < clients → slice_index s.words (i + 1) ≡ 0 → get_elem? s.homes i ≡ some (some None)
     pub kept : (i j k : ℕ) (v : View T) (x : T) → get_elem? s.views j ≡ some v → get_elem? v.values k ≡ some (i, x) → total (λ u. times i u.taken) s.views ≡ 0 → get_elem? s.homes i ≡ some (some (Some x))
@@ -222,13 +235,14 @@ module _ {T : Type 0} where
     pub repeats : (k : ℕ) (p : ℕ × ℕ) → get_elem? v.repeats k ≡ some p → 0 < was v.before p.1 + draws_of p.1 v
     pub numbered : (k : ℕ) (p : ℕ × ℕ) → get_elem? v.repeats k ≡ some p → p.0 < v.passes
     pub values : (i : ℕ) → puts i v ≡ includes i v
+    pub refused : (j w : ℕ) → get_elem? v.refused j ≡ some w → IsShut v.closing w × (w ≤ closed + length v.draws)
 
   abbrev pub IsIdle : View T → Type 0
   IsIdle v = (v.claim ≡ None) × (v.unmarked ≡ None)
 
   -- a load of the control word, after a join and by a pass that collects
   abbrev pub Settles : Step (Option T) → At T → ℕ → At T → Type 0
-  Settles st m found n = (n ≡ m) × Ascends m.0.draws × (length m.0.numbers ≡ m.0.passes → IsIdle m.0 → IsSettled m.0) × (m.0.right ≤ 1) × (m.0.right ≡ 0 → length m.0.taken ≡ 0) × IfSome m.0.closing (λ count. many (λ i. sees i m.0) m.0.clients ≤ count)
+  Settles st m found n = (n ≡ m) × Ascends m.0.draws × (length m.0.numbers ≡ m.0.passes → IsIdle m.0 → IsSettled m.0) × (m.0.right ≤ 1) × (m.0.right ≡ 0 → length m.0.taken ≡ 0) × IfSome m.0.closing (λ count. many (λ i. sees i m.0) m.0.clients ≤ count) × (m.0.closings ≡ has_closing m.0)
 
   -- fetch_or 1 on the client's word: the empty slot goes out with who claimed it
   abbrev pub Claims : Step (Option T) → At T → ℕ → At T → Type 0
@@ -240,7 +254,7 @@ module _ {T : Type 0} where
 
   -- fetch_or 2^32 on the control word
   abbrev pub Closes : Step (Option T) → At T → ℕ → At T → Type 0
-  Closes st m found n = (found < closed → (m.0.closing ≡ None) × (n ≡ (closed_at m.0 found, m.1)) × (length m.0.taken ≡ 0)) × (closed ≤ found → n ≡ m)
+  Closes st m found n = (found < closed → (m.0.closing ≡ None) × (n ≡ (closed_at m.0 found, m.1)) × (length m.0.taken ≡ 0)) × (closed ≤ found → n ≡ (refused_at m.0 found, m.1))
 
   -- fetch_or 2 on the client's word: the slot goes home with the value that was put into it
   abbrev pub Marks : Step (Option T) → At T → ℕ → At T → Type 0

@@ -115,7 +115,7 @@ impl<T: Drop> Gate<T> {
         requires ready { IsReady pass.old }
         requires closing { IsClosingOf pass.old closing }
         ensures pass { (pass.new.gate ≡ pass.old.gate) × (pass.new.seat ≡ pass.old.seat) × (pass.new.numbers ≡ pass.old.numbers) × IsReady pass.new }
-        ensures same { (pass.new.draws ≡ pass.old.draws) × (pass.new.values ≡ pass.old.values) × (pass.new.repeats ≡ pass.old.repeats) × (pass.new.closing ≡ pass.old.closing) }
+        ensures same { (pass.new.draws ≡ pass.old.draws) × (pass.new.values ≡ pass.old.values) × (pass.new.repeats ≡ pass.old.repeats) × (pass.new.closing ≡ pass.old.closing) × (pass.new.refused ≡ pass.old.refused) }
         ensures back { IfErr result (λ e. (e.0 ≡ closing) × (pass.new.taken ≡ pass.old.taken)) }
         ensures memory { result ≡ Err (closing, NotYet.NoMemory) → pass.new ≡ pass.old }
         ensures pending { (missing : ℕ) → result ≡ Err (closing, NotYet.Pending missing) → LookedAt pass.old pass.new (λ found. (marked_count found + missing ≡ closing.count) × (0 < missing)) }

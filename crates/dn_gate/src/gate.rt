@@ -1,5 +1,5 @@
 // The gate.
-ghost use Rattle.std.specs.Prelude.{◌≡◌, ℕ, ◌+◌, ◌<◌, ◌≤◌, ◌++◌, ◌∷◌, [], Some, None, IfOk, IfErr, IfSome, Option, List, All, length, map, slice_index, slice_get};
+ghost use Rattle.std.specs.Prelude.{◌≡◌, ◌⊎◌, ℕ, ◌+◌, ◌<◌, ◌≤◌, ◌++◌, ◌∷◌, [], Some, None, IfOk, IfErr, IfSome, Option, List, All, length, map, slice_index, slice_get};
 ghost use Rattle.dn_gate.specs.Rule.{closed, least, was, merge_draws, either_one};
 ghost use Rattle.dn_gate.specs.History.{IsHistory};
 ghost use Rattle.dn_gate.specs.Order.{IsMerge};
@@ -88,11 +88,13 @@ impl<T: Drop> Gate<T> {
         Ok((Gate { table, clients }, all))
     }
 
-    /// Submits a value for the client.
+    /// Submits a value for the client. It is Included exactly where this call claimed the client and its draw found the gate
+    /// open, Late where it claimed the client and its draw found the gate closed, and a Repeat where the client was there before
+    /// or had been claimed. Late and Repeat give the value back.
     pub fn submit(&self, pass: &mut GatePass<T>, client: ClientId, value: T) -> Told<T>
         requires gate { (pass.old.gate ≡ self.now) × (client.0 < self.now.clients) }
         requires ready { IsReady pass.old }
-        ensures pass { IsSamePass pass.old pass.new × IsReady pass.new × (pass.new.closing ≡ pass.old.closing) }
+        ensures pass { IsSamePass pass.old pass.new × IsReady pass.new × (pass.new.closing ≡ pass.old.closing) × (pass.new.refused ≡ pass.old.refused) }
         ensures included { (place : ℕ) → result ≡ Told.Included place → (pass.new.draws ≡ pass.old.draws ++ included place client.0 ∷ []) × (pass.new.values ≡ pass.old.values ++ (client.0, value) ∷ []) × (pass.new.repeats ≡ pass.old.repeats) × (place < closed) × (pass.old.closing ≡ None) }
         ensures late { (seen : ℕ) (back : T) → result ≡ Told.Late seen back → (back ≡ value) × (closed ≤ seen) × (pass.new.draws ≡ pass.old.draws ++ came_late client.0 seen ∷ []) × (pass.new.values ≡ pass.old.values) × (pass.new.repeats ≡ pass.old.repeats) }
         ensures repeat { (back : T) → result ≡ Told.Repeat back → (back ≡ value) × (pass.new.draws ≡ pass.old.draws) × (pass.new.values ≡ pass.old.values) × (pass.new.repeats ≡ pass.old.repeats ++ (least pass.old.numbers, client.0) ∷ []) }
@@ -110,13 +112,14 @@ impl<T: Drop> Gate<T> {
         }
     }
 
-    /// Closes the gate: each later draw comes late.
+    /// Closes the gate: each later draw comes late. AlreadyClosed comes exactly where the gate was found closed. The pass keeps
+    /// the word that was found, and a pass that stands for all finds there that one of its passes made the closing.
     pub fn close(&self, pass: &mut GatePass<T>) -> Result<Closing<T>, AlreadyClosed>
         requires gate { pass.old.gate ≡ self.now }
         requires ready { IsReady pass.old }
         ensures pass { IsSamePass pass.old pass.new × IsReady pass.new × (pass.new.draws ≡ pass.old.draws) × (pass.new.values ≡ pass.old.values) × (pass.new.repeats ≡ pass.old.repeats) }
-        ensures closed { IfOk result (λ c. (c.gate ≡ self.now) × (pass.old.closing ≡ None) × (pass.new.closing ≡ Some c.count)) }
-        ensures already { IfErr result (λ e. (closed ≤ e.seen) × (pass.new.closing ≡ pass.old.closing)) }
+        ensures closed { IfOk result (λ c. (c.gate ≡ self.now) × (pass.old.closing ≡ None) × (pass.new.closing ≡ Some c.count) × (pass.new.refused ≡ pass.old.refused)) }
+        ensures already { IfErr result (λ e. (closed ≤ e.seen) × (pass.new.closing ≡ pass.old.closing) × (pass.new.refused ≡ pass.old.refused ++ e.seen ∷ [])) }
         ensures kept { IfSome pass.old.closing (λ count. pass.new.closing ≡ Some count) }
     {
         let seen = self
@@ -142,6 +145,10 @@ impl<T: Drop> Gate<T> {
         ensures numbers { pass.new.numbers ≡ pass.old.numbers ++ other.numbers }
         ensures both { (pass.new.draws ≡ merge_draws pass.old.draws other.draws) × (pass.new.values ≡ pass.old.values ++ other.values) × (pass.new.repeats ≡ pass.old.repeats ++ other.repeats) × (pass.new.closing ≡ either_one pass.old.closing other.closing) }
         ensures collected { (pass.new.looked ≡ pass.old.looked ++ other.looked) × (pass.new.taken ≡ pass.old.taken ++ other.taken) }
+        ensures refused { pass.new.refused ≡ pass.old.refused ++ other.refused }
+
+        // A gate is closed once.
+        ensures one { (pass.old.closing ≡ None) ⊎ (other.closing ≡ None) }
 
         // The draws of each keep their order.
         ensures order { IsMerge pass.new.draws pass.old.draws other.draws }

@@ -30,7 +30,7 @@ returns-clause-same g c =
     let at = step c.self.inside.table.shared.table_id.slots 0 0 0 none in
     let got = has_right at at c.pass.inside.seat.me c.load.new.seat.me c.count_marked-marked.new.seat.me c.join_seat.new.seat.me c.load-2.new.seat.me c.closing.inside.right.me c.load.result c.load-2.result c.count_marked-marked.ensures.looked.0 c.load.ensures.2 c.count_marked-marked.ensures.looked.1 c.closing.invariant c.join_seat.ensures.2 c.load-2.ensures.2 in
     let is = c.load-3.ensures.2.0 ∙ c.take_all.ensures.taken ∙ ap (λ m. (took_all m.0 (clients_of c.take_all.new.out.items), [])) got.0 in
-    (ap (λ m. m.0.draws) is ∙ ap (λ p. p.draws) c.pass.view_is, ap (λ m. m.0.values) is ∙ ap (λ p. p.values) c.pass.view_is, ap (λ m. m.0.repeats) is ∙ ap (λ p. p.repeats) c.pass.view_is, ap (λ m. m.0.closing) is ∙ ap (λ p. p.closing) c.pass.view_is)
+    (ap (λ m. m.0.draws) is ∙ ap (λ p. p.draws) c.pass.view_is, ap (λ m. m.0.values) is ∙ ap (λ p. p.values) c.pass.view_is, ap (λ m. m.0.repeats) is ∙ ap (λ p. p.repeats) c.pass.view_is, ap (λ m. m.0.closing) is ∙ ap (λ p. p.closing) c.pass.view_is, ap (λ m. m.0.refused) is ∙ ap (λ p. p.refused) c.pass.view_is)
 
 pub load-requires-3 : goal.load-requires-3
 load-requires-3 g c =

@@ -36,7 +36,7 @@ pub returns-in-Included-clause-pass : goal.returns-in-Included-clause-pass
 returns-in-Included-clause-pass g c =
     let e = drawn c.args.pass.now c.claim.new.pass c.draw.new.pass c.args.client.0 c.in-Included.place c.if-not-claim.ensures.claimed (c.in-Included.ensures.included c.in-Included.place refl).2 in
     let m = marked c.args.pass.now c.draw.new.pass c.deposit.new.pass c.mark.new.pass c.args.client.0 c.in-Included.place c.args.value e c.deposit.ensures.deposited (c.mark.ensures.marked c.args.value (ap (λ p. p.held) c.deposit.ensures.deposited)) in
-    ((ap (λ p. p.gate) m, ap (λ p. p.seat) m, ap (λ p. p.numbers) m, ap (λ p. p.looked) m, ap (λ p. p.taken) m), (ap (λ p. p.claim) m, ap (λ p. p.unmarked) m), ap (λ p. p.closing) m)
+    ((ap (λ p. p.gate) m, ap (λ p. p.seat) m, ap (λ p. p.numbers) m, ap (λ p. p.looked) m, ap (λ p. p.taken) m), (ap (λ p. p.claim) m, ap (λ p. p.unmarked) m), ap (λ p. p.closing) m, ap (λ p. p.refused) m)
 
 pub returns-in-Included-clause-included : goal.returns-in-Included-clause-included
 returns-in-Included-clause-included g c = λ place is.
@@ -49,7 +49,7 @@ returns-in-Included-clause-included g c = λ place is.
 pub returns-in-Late-clause-pass : goal.returns-in-Late-clause-pass
 returns-in-Late-clause-pass g c =
     let m = late c.args.pass.now c.claim.new.pass c.draw.new.pass c.args.client.0 c.in-Late.seen c.if-not-claim.ensures.claimed (c.in-Late.ensures.late c.in-Late.seen refl).1 in
-    ((ap (λ p. p.gate) m, ap (λ p. p.seat) m, ap (λ p. p.numbers) m, ap (λ p. p.looked) m, ap (λ p. p.taken) m), (ap (λ p. p.claim) m, ap (λ p. p.unmarked) m ∙ c.requires.ready.1), ap (λ p. p.closing) m)
+    ((ap (λ p. p.gate) m, ap (λ p. p.seat) m, ap (λ p. p.numbers) m, ap (λ p. p.looked) m, ap (λ p. p.taken) m), (ap (λ p. p.claim) m, ap (λ p. p.unmarked) m ∙ c.requires.ready.1), ap (λ p. p.closing) m, ap (λ p. p.refused) m)
 
 pub returns-in-Late-clause-late : goal.returns-in-Late-clause-late
 returns-in-Late-clause-late g c = λ seen back is.
