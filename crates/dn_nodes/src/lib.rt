@@ -8,6 +8,8 @@
 mod node;
 mod nodes;
 mod steps;
+#[cfg(test)]
+mod tests;
 
 pub use node::{NONE, Node};
 pub use nodes::Nodes;

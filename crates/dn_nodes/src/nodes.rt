@@ -49,6 +49,7 @@ impl Nodes {
         ensures cost { steps.new ≡ steps.old + 1 }
     {
         steps.tick();
-        self.held[i as usize] = node;
+        let place = i as usize;
+        self.held[place] = node;
     }
 }
