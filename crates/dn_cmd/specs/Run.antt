@@ -53,7 +53,9 @@ Ends before after (status.BadLine number cause) =
 Ends before after (status.TooLong limit) =
     Keeps before.held after.held × (limit ≡ script_limit)
     × (bytes : List ℕ) × (length bytes ≡ script_limit + 1) × Consumes before.left after.left bytes
-Ends before after status.ReadFault = Keeps before.held after.held × Rose before.read_faults after.read_faults
+Ends before after status.ReadFault =
+    Keeps before.held after.held × Rose before.read_faults after.read_faults
+    × (bytes : List ℕ) × (length bytes ≤ script_limit) × Consumes before.left after.left bytes
 Ends before after status.WriteFault =
     Rose before.write_faults after.write_faults
     × (p : Plain) × CameScript before after p × AppendsFront before.held after.held (plain_text p)

@@ -1,5 +1,5 @@
 -- What loops that read and write keep.
-use Rattle.std.proofs.Common.{◌≡◌, ◌≤◌, ◌+◌, ◌-◌, ℕ, List, take, drop, ◌++◌, length, arith, sym, subst, Err, length-append}
+use Rattle.std.proofs.Common.{◌≡◌, ◌<◌, ◌≤◌, ◌+◌, ◌-◌, ℕ, List, take, drop, ◌++◌, length, arith, sym, subst, Err, length-append}
 use Rattle.std.specs.declared.option.Option.{Option}
 use Rattle.std.specs.Io.KnownBytes.{Appends, Consumes}
 use Rattle.std.proofs.Math.Seq.{take-add}
@@ -29,9 +29,9 @@ front_more a b c at k bytes first second =
     (Appends-trans a b c (take at bytes) (take k (drop at bytes)) first (subst (λ l. Appends b c (take k l)) rest second))
 
 pub read_err : {T : Type 0} (items : T → List ℕ) (old mid new : Option (List ℕ)) (before now limit room : ℕ) (bytes after : List ℕ) (e : ReadEnd)
-    → HasRead old mid before now limit bytes → length bytes + room ≤ limit + 1 → ReadsPiece mid new room (Err e) bytes after
+    → HasRead old mid before now limit bytes → length bytes + room ≤ limit + 1 → 0 < room → ReadsPiece mid new room (Err e) bytes after
     → ReadsWhole items old new limit (Err e)
-read_err items old mid new before now limit room bytes after ReadFault h fits kept = (bytes, h.within, Consumes-kept old mid new bytes h.taken kept)
-read_err items old mid new before now limit room bytes after (TooLong n) h fits never = absurd never
-read_err items old mid new before now limit room bytes after NoMemory h fits p =
+read_err items old mid new before now limit room bytes after ReadFault h fits some kept = (bytes, omega (arith, fits, some), Consumes-kept old mid new bytes h.taken kept)
+read_err items old mid new before now limit room bytes after (TooLong n) h fits some never = absurd never
+read_err items old mid new before now limit room bytes after NoMemory h fits some p =
     (bytes ++ p.0, omega (arith, length-append bytes p.0, p.1), Consumes-trans old mid new bytes p.0 h.taken p.2)

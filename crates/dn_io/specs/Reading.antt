@@ -11,7 +11,7 @@ module _ {T : Type 0} (items : T → List ℕ) (old new : Option (List ℕ)) (li
   abbrev pub ReadsWhole : Result T ReadEnd → Type 0
   ReadsWhole (Ok x) = (length (items x) ≤ limit) × Consumes old new (items x) × IsAtEnd new
   ReadsWhole (Err (TooLong n)) = (n ≡ limit) × (bytes : List ℕ) × (length bytes ≡ limit + 1) × Consumes old new bytes
-  ReadsWhole (Err ReadFault) = (bytes : List ℕ) × (length bytes ≤ limit + 1) × Consumes old new bytes
+  ReadsWhole (Err ReadFault) = (bytes : List ℕ) × (length bytes ≤ limit) × Consumes old new bytes
   ReadsWhole (Err NoMemory) = (bytes : List ℕ) × (length bytes ≤ limit + 1) × Consumes old new bytes
 
 -- the count of a source never falls, and rises at a read fault
