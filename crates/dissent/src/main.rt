@@ -7,23 +7,30 @@ use dn_io::{ReadEdge, Status, WriteEdge};
 use std::process::ExitCode;
 use std::{env, io};
 
-/// The words behind the program's name, or none where they can't be had as text.
-fn words(rt: &HostRuntime) -> Option<Vec<String>> {
+/// The words behind the program's name. `NoMemory` where the allocator refuses them, `Usage` where one isn't text.
+fn words(rt: &HostRuntime) -> Result<Vec<String>, Status> {
+    let args = match env::args(rt) {
+        Ok(args) => args,
+        Err(error) if error.kind() == io::ErrorKind::OutOfMemory => return Err(Status::NoMemory),
+        Err(_) => return Err(Status::Usage),
+    };
     let mut words = Vec::new(rt.alloc());
-    for word in env::args(rt).ok()?.skip(1) {
-        words.push(word).ok()?;
+    for word in args.skip(1) {
+        if words.push(word).is_err() {
+            return Err(Status::NoMemory);
+        }
     }
-    Some(words)
+    Ok(words)
 }
 
 fn main(rt: HostRuntime) -> ExitCode {
     let status = match words(&rt) {
-        Some(words) => {
+        Ok(words) => {
             let mut input = ReadEdge::make(rt.reader());
             let mut output = WriteEdge::make(io::writer(&rt));
             dissent(&rt, rt.alloc(), &words, &mut input, &mut output)
         }
-        None => Status::Usage,
+        Err(status) => status,
     };
     if status != Status::Ok {
         let _ = eprintln!(rt; "{status}");
