@@ -6,7 +6,9 @@
 #![tactic(auto)]
 
 mod keystream;
+mod laws;
 mod pads;
 
 pub use keystream::Seed;
+pub use laws::pad_laws;
 pub use pads::{add_pad, pad, pad_bit};
