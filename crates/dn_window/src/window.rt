@@ -54,6 +54,20 @@ impl Window {
         })
     }
 
+    /// An equal window.
+    pub fn copy(&self, alloc: Global) -> Result<Window, NoMemory>
+        ensures { IfOk result (λ w. w ≡ self.now) }
+    {
+        Ok(Window {
+            expected: self.expected,
+            submitted: Vec::from_slice(alloc, &self.submitted)?,
+            count: self.count,
+            ticks: self.ticks,
+            closing_tick: self.closing_tick,
+            closed: self.closed,
+        })
+    }
+
     /// Takes a submission of client i and says what the client is told.
     pub fn submit(&mut self, i: ClientId) -> WindowTold
         requires { i.0 < clients_of self.old }
