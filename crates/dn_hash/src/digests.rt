@@ -1,6 +1,7 @@
 // Each digest feeds its pieces to the hasher in turn.
 ghost use Rattle.std.specs.Prelude.{◌≡◌};
-ghost use Rattle.dn_hash.specs.Digests.{tagged_digest, seed_commitment_of, cipher_digest_of, server_digest_of, mask_key_of, block_check_of, mask_seed_of, group_tag_of, group_digest_of};
+ghost use Rattle.dn_hash.specs.Digests.{tagged_digest, seed_commitment_of, cipher_digest_of, server_digest_of, mask_key_of, block_check_of, mask_seed_of, group_digest_of};
+ghost use Rattle.dn_hash.specs.Inputs.{group_tag_of};
 
 use sha2::{Digest, Sha256};
 

@@ -3,8 +3,10 @@
 #![tactic(auto)]
 
 mod digests;
+mod laws;
 
 pub use digests::{
     block_check, cipher_digest, group_digest, group_tag, mask_key, mask_seed, seed_commitment,
     server_digest, tagged,
 };
+pub use laws::inputs_have_their_parts;

@@ -1,7 +1,8 @@
 use Rattle.std.proofs.Common.{rules, ◌≡◌, ◌++◌, ◌∙◌, ap, length}
 use Rattle.std.specs.Int.{w32, to_be_bytes}
 use Rattle.sha2.specs.Sha256.{sha256}
-use Rattle.dn_hash.specs.Digests.{group_tag_of, group_digest_of}
+use Rattle.dn_hash.specs.Inputs.{group_tag_of}
+use Rattle.dn_hash.specs.Digests.{group_digest_of}
 use Rattle.dn_roster.specs.Roster.{joined, roster_bytes_of}
 use Rattle.dn_roster.proofs.RosterLemmas.{grouped}
 use Rattle.dn_roster.proofs.roster.Roster.make.Goals as goal
