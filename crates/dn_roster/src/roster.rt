@@ -77,6 +77,23 @@ impl Roster {
         }
     }
 
+    /// An equal roster.
+    pub fn copy(&self, alloc: Global) -> Result<Roster, NoMemory>
+        ensures { IfOk result (λ r. r ≡ self.now) }
+    {
+        Ok(Roster {
+            version: self.version,
+            ots: self.ots,
+            client_lms: self.client_lms,
+            server_lms: self.server_lms,
+            clients: Vec::from_slice(alloc, &self.clients)?,
+            servers: Vec::from_slice(alloc, &self.servers)?,
+            slots: Vec::from_slice(alloc, &self.slots)?,
+            seals: Vec::from_slice(alloc, &self.seals)?,
+            digest: self.digest,
+        })
+    }
+
     /// The version of the group.
     pub fn version(&self) -> u8
         ensures value { result ≡ self.now.version }

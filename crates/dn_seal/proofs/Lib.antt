@@ -3,3 +3,4 @@ pub mod DrawLemmas
 pub mod EnvelopeLemmas
 pub mod ChallengeLemmas
 pub mod DealtLemmas
+pub mod SaidLemmas

@@ -11,12 +11,13 @@ use Rattle.dn_seal.specs.Signer.{envelope}
 use Rattle.dn_seal.specs.declared.unopened.Unopened.{Unopened}
 use Rattle.dn_seal.specs.declared.unopened.Unopened.TheVariants.{Form, Stranger, Signature, NoMemory}
 
--- the digest of its group, its signer's public key and its signer, the statement, and the bytes of the envelope
+-- the digest of its group, its signer's public key and its signer, the statement and its signature, and the bytes of the envelope
 pub record SaidView : Type 0 where
   pub digest : List ℕ
   pub key : List ℕ
   pub signer : SignerId
   pub statement : Statement
+  pub signature : List ℕ
   pub bytes : List ℕ
 
 -- a signature of the signer's statement verifies under the key, in the group with this digest
@@ -25,10 +26,9 @@ Signs digest key e = Verifies key (signed_bytes_of digest e.signer (statement_by
 
 -- the bytes are an envelope of the statement, whose signature verifies under the key that is kept
 pub record IsSaid (said : SaidView) : Type 0 where
-  pub signature : List ℕ
-  pub fits : IsEnvelope (envelope said.signer said.statement signature)
-  pub spelled : said.bytes ≡ envelope_bytes (envelope said.signer said.statement signature)
-  pub verifies : Signs said.digest said.key (envelope said.signer said.statement signature)
+  pub fits : IsEnvelope (envelope said.signer said.statement said.signature)
+  pub spelled : said.bytes ≡ envelope_bytes (envelope said.signer said.statement said.signature)
+  pub verifies : Signs said.digest said.key (envelope said.signer said.statement said.signature)
 
 -- the digest and the key are those of this roster
 abbrev pub IsUnder : RosterView → SaidView → Type 0

@@ -1,10 +1,13 @@
 // Laws of dealt groups, for those who build on them.
-ghost use Rattle.std.specs.Prelude.{◌≡◌, ℕ, ◌+◌, ◌*◌, ◌<◌, ◌≤◌, Some, None, slice_get};
+ghost use Rattle.std.specs.Prelude.{◌≡◌, ℕ, ◌+◌, ◌*◌, ◌<◌, ◌≤◌, List, Some, None, slice_get};
 ghost use Rattle.dn_wire.specs.declared.ids.SignerId.{SignerId};
 ghost use Rattle.dn_hash.specs.Digests.{seed_commitment_of};
 ghost use Rattle.dn_lms.specs.Signature.{public_key};
 ghost use Rattle.dn_roster.specs.Dealing.{mask_secret_of, number_of};
 ghost use Rattle.dn_roster.specs.Roster.{key_of, commitment_of};
+ghost use Rattle.dn_records.specs.declared.statement.Statement.{Statement};
+ghost use Rattle.dn_roster.specs.Roster.{RosterView};
+ghost use Rattle.dn_seal.specs.Said.{SaidView, IsSaid, IsUnder, Unseals};
 ghost use Rattle.dn_seal.specs.Dealt.{IsMember, signers_like, client, server, slot, key_dealt_to, seed_dealt_to};
 
 use crate::dealt::Dealt;
@@ -27,4 +30,11 @@ pub fn pairs_have_their_seeds(dealt: &Dealt)
     ensures seeds { (i j : ℕ) → i < dealt.now.spec.clients → j < dealt.now.spec.servers
         → slice_get dealt.now.seeds.items (i * dealt.now.spec.servers + j) ≡ Some (seed_dealt_to dealt.now.spec i j) }
     ensures masks { (i : ℕ) → i < dealt.now.spec.clients → slice_get dealt.now.masks.items i ≡ Some (mask_secret_of dealt.now.spec.seed i) }
+{}
+
+/// Under one roster, what was said is what its bytes spell: bytes unseal as one signer's one statement.
+pub fn bytes_say_one_thing()
+    ensures one { (roster : RosterView) (x y : SaidView) → IsSaid x → IsSaid y → IsUnder roster x → IsUnder roster y → x.bytes ≡ y.bytes → x ≡ y }
+    ensures unseals { (roster : RosterView) (x : SaidView) → IsSaid x → IsUnder roster x → Unseals roster x.bytes x.signer x.statement }
+    ensures alone { (roster : RosterView) (bytes : List ℕ) (i j : SignerId) (s t : Statement) → Unseals roster bytes i s → Unseals roster bytes j t → (i ≡ j) × (s ≡ t) }
 {}

@@ -17,7 +17,7 @@ mod unopened;
 
 pub use challenge::Challenge;
 pub use dealt::{Dealt, deal};
-pub use laws::{members_have_their_keys, pairs_have_their_seeds};
+pub use laws::{bytes_say_one_thing, members_have_their_keys, pairs_have_their_seeds};
 pub use said::{Said, unseal};
 pub use signer::{SealFault, Signer};
 pub use unopened::Unopened;

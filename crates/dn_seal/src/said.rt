@@ -6,9 +6,10 @@ ghost use Rattle.dn_seal.specs.Said.{SaidView, IsSaid, IsUnder, Unseals, IsUnope
 
 use crate::unopened::Unopened;
 use dn_lms::verify;
+use dn_memory::NoMemory;
 use dn_records::{Envelope, RecordFault, Statement, decode_envelope};
 use dn_roster::Roster;
-use dn_wire::SignerId;
+use dn_wire::{Bytes, SignerId};
 use std::alloc::Global;
 use std::marker::Model;
 
@@ -19,6 +20,7 @@ pub struct Said {
     key: [u8; 56],
     signer: SignerId,
     statement: Statement,
+    signature: Bytes,
     bytes: Vec<u8>,
 }
 
@@ -27,9 +29,9 @@ impl Model for Said {
 
     ghost Value = { SaidView };
 
-    ghost view = { λ s. record { digest = s.digest; key = s.key; signer = s.signer; statement = s.statement; bytes = s.bytes.items } };
+    ghost view = { λ s. record { digest = s.digest; key = s.key; signer = s.signer; statement = s.statement; signature = s.signature; bytes = s.bytes.items } };
 
-    ghost invariant = { λ s. IsSaid record { digest = s.digest; key = s.key; signer = s.signer; statement = s.statement; bytes = s.bytes.items } };
+    ghost invariant = { λ s. IsSaid record { digest = s.digest; key = s.key; signer = s.signer; statement = s.statement; signature = s.signature; bytes = s.bytes.items } };
 }
 
 impl Said {
@@ -49,12 +51,35 @@ impl Said {
         &self.statement
     }
 
+    /// The signature of the statement.
+    pub fn signature(&self) -> &[u8]
+        ensures value { result.now ≡ self.now.signature }
+        ensures said { IsSaid self.now }
+    {
+        self.signature.get()
+    }
+
     /// The bytes of the envelope.
     pub fn bytes(&self) -> &[u8]
         ensures value { result.now ≡ self.now.bytes }
         ensures said { IsSaid self.now }
     {
         &self.bytes
+    }
+
+    /// An equal value.
+    pub fn copy(&self, alloc: Global) -> Result<Said, NoMemory>
+        ensures same { IfOk result (λ s. s ≡ self.now) }
+        ensures said { IsSaid self.now }
+    {
+        Ok(Said {
+            digest: self.digest,
+            key: self.key,
+            signer: self.signer,
+            statement: self.statement.copy(alloc)?,
+            signature: self.signature.copy(alloc)?,
+            bytes: Vec::from_slice(alloc, &self.bytes)?,
+        })
     }
 }
 
@@ -100,6 +125,7 @@ pub fn unseal(alloc: Global, roster: &Roster, bytes: &[u8]) -> Result<Said, Unop
         key: key_kept,
         signer,
         statement: envelope.statement,
+        signature: envelope.signature,
         bytes: kept,
     })
 }
