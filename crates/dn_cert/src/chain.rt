@@ -3,7 +3,7 @@ ghost use Rattle.dn_cert.specs.Chain.{bodies, Holds, IsLayoutAfter, bits_due, co
 
 use crate::certificate::Certificate;
 use crate::floor::is_due_thin;
-use crate::held::{Held, bits_due, count_below, find, layout_after};
+use crate::held::{Held, bits_due, copies, count_below, find, layout_after};
 use crate::hold_fault::HoldFault;
 use dn_layout::Layout;
 use dn_memory::NoMemory;
@@ -44,6 +44,17 @@ impl Chain {
         Ok(Chain {
             first: Layout::first(alloc, n)?,
             held: Vec::new(alloc),
+        })
+    }
+
+    /// An equal chain.
+    pub fn copy(&self, alloc: Global) -> Result<Chain, NoMemory>
+        ensures same { IfOk result (λ c. c ≡ self.now) }
+        ensures chain { IsChain self.now }
+    {
+        Ok(Chain {
+            first: self.first.copy(alloc)?,
+            held: copies(alloc, &self.held)?,
         })
     }
 

@@ -17,6 +17,29 @@ pub struct Held {
     pub layout: Layout,
 }
 
+impl Held {
+    /// An equal value.
+    pub fn copy(&self, alloc: Global) -> Result<Held, NoMemory>
+        ensures { IfOk result (λ h. h ≡ self.now) }
+    {
+        Ok(Held {
+            certificate: self.certificate.copy(alloc)?,
+            layout: self.layout.copy(alloc)?,
+        })
+    }
+}
+
+/// A second list of equal values.
+pub fn copies(alloc: Global, held: &[Held]) -> Result<Vec<Held>, NoMemory>
+    ensures { IfOk result (λ v. v.items ≡ held.now) }
+{
+    let mut list = Vec::new(alloc);
+    for each in held {
+        list.push(each.copy(alloc)?)?;
+    }
+    Ok(list)
+}
+
 /// How many bits the output of a body has that comes after this layout.
 pub fn bits_due(before: &Layout, body: &Body) -> u32
     ensures { result ≡ bits_due before.now body.now }
