@@ -4,6 +4,7 @@ pub mod TrimLemmas
 pub mod Parts
 pub mod PartLemmas
 pub mod RefusalLemmas
+pub mod OpeningLemmas
 pub mod ListLemmas
 pub mod CountLemmas
 pub mod ChainLemmas

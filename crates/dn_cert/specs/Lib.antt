@@ -4,3 +4,4 @@ pub mod Certificate
 pub mod Floor
 pub mod Chain
 pub mod Evidence
+pub mod Opening

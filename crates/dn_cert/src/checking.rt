@@ -1,10 +1,10 @@
-ghost use Rattle.std.specs.Prelude.{◌≡◌, ◌↔◌, ◌<◌, ℕ, List, [], length, slice_index_or, IfOk, IfErr, IsTrue, MatchResult};
+ghost use Rattle.std.specs.Prelude.{◌≡◌, ◌↔◌, ◌⊎◌, ◌<◌, ℕ, List, [], length, slice_index_or, IfOk, IfErr, IsTrue, MatchResult};
 ghost use Rattle.dn_records.specs.Part.{Gives};
 ghost use Rattle.dn_records.specs.Records.{IsPayload, IsBody, payload_bytes, statement_bytes};
 ghost use Rattle.dn_records.specs.declared.body.Body.{Body};
 ghost use Rattle.dn_records.specs.declared.payload.Payload.TheVariants as payloads;
 ghost use Rattle.dn_roster.specs.Roster.{digest_of};
-ghost use Rattle.dn_cert.specs.Certificate.{IsCertificate, IsUnder, IsOfRoster, digests_due, IsSigned, IsRefused, FirstUnsigned, certificate_of};
+ghost use Rattle.dn_cert.specs.Certificate.{IsCertificate, IsUnder, IsOfRoster, digests_due, IsSigned, IsUnsigned, IsRefused, FirstUnsigned, certificate_of};
 
 use crate::certificate::Certificate;
 use crate::fault::CertFault;
@@ -118,6 +118,38 @@ fn first_unsigned(
     Ok(None)
 }
 
+/// The certificate of a body and signatures that the bytes of a payload carry. The refusals come in the order of `CertFault`.
+pub(crate) fn certified(
+    alloc: Global,
+    roster: &Roster,
+    bytes: &[u8],
+    body: Body,
+    signatures: &[Bytes],
+) -> Result<Certificate, CertFault>
+    requires fits { IsPayload (payloads.Certificate body signatures.now) }
+    requires spelled { bytes.now ≡ payload_bytes (payloads.Certificate body signatures.now) }
+    ensures certificate { IfOk result (λ c. IsCertificate c × IsUnder roster.now c × (c.bytes ≡ bytes.now) × (c.body ≡ body)) }
+    ensures refused { IfErr result (λ f. (f ≡ CertFault.NoMemory) ⊎ IsUnsigned roster.now body signatures.now f) }
+{
+    let count = signatures.len();
+    let servers = roster.servers();
+    if count != servers as usize {
+        let server = ServerId(count.min(servers as usize) as u32);
+        return Err(CertFault::Missing { server });
+    }
+    if !is_in_group(roster, &body) {
+        return Err(CertFault::Body {
+            server: ServerId(0),
+        });
+    }
+    if let Some(server) = first_unsigned(alloc, roster, &body, signatures)? {
+        return Err(CertFault::Signature { server });
+    }
+    let keys = server_keys(alloc, roster)?;
+    let kept = Vec::from_slice(alloc, bytes)?;
+    Ok(Certificate::of(roster.digest(), roster.clients(), keys, body, kept))
+}
+
 /// The certificate that the bytes of a payload are: its body, with one signature from each server of the roster, which
 /// verifies on the server's `Sign` of the body. The refusals come in the order of `CertFault`.
 pub fn check(alloc: Global, roster: &Roster, bytes: &[u8]) -> Result<Certificate, CertFault>
@@ -132,21 +164,5 @@ pub fn check(alloc: Global, roster: &Roster, bytes: &[u8]) -> Result<Certificate
         Ok(parts) => parts,
         Err(fault) => return Err(CertFault::from(fault)),
     };
-    let count = signatures.get().len();
-    let servers = roster.servers();
-    if count != servers as usize {
-        let server = ServerId(count.min(servers as usize) as u32);
-        return Err(CertFault::Missing { server });
-    }
-    if !is_in_group(roster, &body) {
-        return Err(CertFault::Body {
-            server: ServerId(0),
-        });
-    }
-    if let Some(server) = first_unsigned(alloc, roster, &body, signatures.get())? {
-        return Err(CertFault::Signature { server });
-    }
-    let keys = server_keys(alloc, roster)?;
-    let kept = Vec::from_slice(alloc, bytes)?;
-    Ok(Certificate::of(roster.digest(), roster.clients(), keys, body, kept))
+    certified(alloc, roster, bytes, body, signatures.get())
 }

@@ -2,9 +2,9 @@
 //! are judged.
 //!
 //! `trim` makes one list of the inventories of all servers. `check` reads a payload as a certificate under a roster: a body that
-//! every server signed. A `Chain` holds certificates by their rounds, each after that of its prev, with the layout after each
-//! round, and asks each to be thin exactly where the floor of `is_due_thin` says so. `Rules` says when an accusation holds and when a rebuttal is good. `specs/` has a definition for each of these, and
-//! the laws are public functions.
+//! every server signed. `open_payload` opens a payload of any kind, with all that it carries. A `Chain` holds certificates by their rounds, each after that of its prev, with the layout after each
+//! round, and asks each to be thin exactly where the floor of `is_due_thin` says so. `Rules` says when an accusation holds and when a
+//! rebuttal is good. `specs/` has a definition for each of these, and the laws are public functions.
 #![tactic(auto)]
 
 mod certificate;
@@ -17,6 +17,9 @@ mod floor;
 mod held;
 mod hold_fault;
 mod making;
+mod opened;
+mod opening;
+mod payload_fault;
 mod rules;
 mod shown;
 mod trim_laws;
@@ -31,11 +34,16 @@ pub use fault::CertFault;
 pub use floor::is_due_thin;
 pub use hold_fault::HoldFault;
 pub use making::make_body;
+pub use opened::Opened;
+pub use opening::open_payload;
+pub use payload_fault::PayloadFault;
 pub use rules::{Invalid, Rules, Valid};
 pub use shown::shown_bit;
 pub use trim_laws::{servers_part_the_list, trims_are_one, trims_follow_inventories};
 pub use trimming::trim;
 
+#[cfg(test)]
+mod opening_tests;
 #[cfg(test)]
 mod tests;
 #[cfg(test)]

@@ -19,7 +19,7 @@ use std::test::Fail;
 /// No output, eight zeros, nine zeros, and eight bits of which the first asks for slot 0.
 const NONE: &[u8] = &[0, 0, 0, 0];
 
-const EIGHT: &[u8] = &[0, 0, 0, 8, 0];
+pub const EIGHT: &[u8] = &[0, 0, 0, 8, 0];
 
 const NINE: &[u8] = &[0, 0, 0, 9, 0, 0];
 
@@ -28,7 +28,7 @@ const ASKED: &[u8] = &[0, 0, 0, 8, 0x80];
 /// What a body of round `r` after round `prev` is made of: it lists client 2 and, where `listed` is more, those before it, all at server
 /// 1, and has so many digests. Where `thin` is `None` it is of version 1.
 #[derive(Clone, Copy)]
-struct Outcome {
+pub struct Outcome {
     r: u64,
     prev: u64,
     thin: Option<bool>,
@@ -38,7 +38,7 @@ struct Outcome {
 }
 
 /// A body of version 1 with one client.
-const fn first(r: u64, prev: u64, out: &'static [u8]) -> Outcome {
+pub const fn first(r: u64, prev: u64, out: &'static [u8]) -> Outcome {
     Outcome {
         r,
         prev,
@@ -73,7 +73,7 @@ const fn thin(r: u64, prev: u64, listed: u32) -> Outcome {
     }
 }
 
-fn group(alloc: Global, version: u8) -> Result<Dealt, Fail>
+pub fn group(alloc: Global, version: u8) -> Result<Dealt, Fail>
     requires { (1 ≤ version) × (version ≤ 2) }
 {
     let spec = GroupSpec {
@@ -89,7 +89,7 @@ fn group(alloc: Global, version: u8) -> Result<Dealt, Fail>
 }
 
 /// The key's first signature of a statement of `who`.
-fn signature(
+pub fn signature(
     alloc: Global,
     roster: &Roster,
     who: SignerId,
@@ -115,7 +115,7 @@ fn put_front(out: &mut Vec<u8>, body: Outcome) -> Result<(), Fail> {
 }
 
 /// The bytes of a server's statement that signs the body.
-fn statement(alloc: Global, body: Outcome) -> Result<Vec<u8>, Fail> {
+pub fn statement(alloc: Global, body: Outcome) -> Result<Vec<u8>, Fail> {
     let mut bytes = Vec::new(alloc);
     put_front(&mut bytes, body)?;
     let listed = body.listed.min(3);
@@ -151,7 +151,12 @@ fn put_signature(
 }
 
 /// The payload of the statement's body with the signatures of the first servers.
-fn payload(alloc: Global, dealt: &Dealt, statement: &[u8], servers: u32) -> Result<Vec<u8>, Fail> {
+pub fn payload(
+    alloc: Global,
+    dealt: &Dealt,
+    statement: &[u8],
+    servers: u32,
+) -> Result<Vec<u8>, Fail> {
     let body = statement.get(1..).ok_or("no body")?;
     let long = u32::try_from(body.len()).ok().ok_or("a long body")?;
     let mut bytes = vec![in alloc; 3]?;
