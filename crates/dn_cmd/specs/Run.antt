@@ -1,6 +1,7 @@
 -- What `run` answers, and what it has read and written then.
 use Rattle.std.specs.Prelude.{◌≡◌, ℕ, ◌+◌, ◌<◌, ◌≤◌, List, length, Option, ◌⊎◌}
 use Rattle.std.specs.Io.KnownBytes.{Appends, Consumes, Keeps, IsAtEnd}
+use Rattle.dn_wire.specs.declared.limits.TheConstants.{MAX_SCRIPT_BYTES}
 use Rattle.dn_io.specs.declared.status.Status.{Status}
 use Rattle.dn_io.specs.declared.status.Status.TheVariants as status
 use Rattle.dn_io.specs.Faults.{Rose}
@@ -15,7 +16,7 @@ use Rattle.dn_cmd.specs.Round.{plain_text}
 
 -- at most so many bytes of a script are read
 abbrev pub script_limit : ℕ
-script_limit = 8388608
+script_limit = MAX_SCRIPT_BYTES
 
 -- the status of `run` on this text, where neither memory nor the outside fails
 abbrev pub IsDue : List ℕ → Status → Type 0

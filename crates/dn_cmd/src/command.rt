@@ -6,12 +6,10 @@ ghost use Rattle.dn_cmd.specs.Run.{Outside, Ends, IsDue, refusal_of};
 use crate::text::plain_text;
 use dn_io::{ReadEnd, Sink, Source, Status, WriteEnd, read_whole, write_whole};
 use dn_script::{ScriptFault, read_script};
+use dn_wire::MAX_SCRIPT_BYTES;
 use std::alloc::Global;
 use std::sync::Wait;
 use std::thread::Threads;
-
-/// At most so many bytes of a script are read.
-const SCRIPT_LIMIT: u64 = 8_388_608;
 
 /// What the program is asked to do.
 #[derive(Clone, Copy, Debug, PartialEq, Eq)]
@@ -62,7 +60,7 @@ fn run<S: Source, K: Sink>(alloc: Global, input: &mut S, output: &mut K) -> Stat
         } in
         Ends before after result }
 {
-    let text = match read_whole(alloc, input, SCRIPT_LIMIT) {
+    let text = match read_whole(alloc, input, MAX_SCRIPT_BYTES) {
         Ok(text) => text,
         Err(ReadEnd::ReadFault) => return Status::ReadFault,
         Err(ReadEnd::TooLong { limit }) => return Status::TooLong { limit },

@@ -15,7 +15,7 @@ use crate::reading::{
 };
 use crate::reading_lists::{digests_of, entries_of, rows_of, shown_of};
 use crate::statement::{Statement, WordTold};
-use dn_wire::Reader;
+use dn_wire::{MAX_CARRIED_BYTES, Reader};
 use std::alloc::Global;
 
 fn inventory_of(alloc: Global, reader: &mut Reader) -> Result<Inventory, RecordFault>
@@ -158,7 +158,7 @@ fn rebuttal_of(alloc: Global, reader: &mut Reader) -> Result<Statement, RecordFa
     let k = u32_of(reader)?;
     let server = server_of(reader)?;
     let seed = digest_of(reader)?;
-    let envelope = limited_bytes_of(alloc, reader, 65535)?;
+    let envelope = limited_bytes_of(alloc, reader, MAX_CARRIED_BYTES)?;
     Ok(Statement::Rebuttal {
         r,
         k,

@@ -14,11 +14,8 @@ use crate::reading::{bits_of, few_of, inner_of, limited_of, round_of, u8_of, u32
 use crate::reading_lists::{envelopes_of, signatures_of};
 use crate::reading_statements::{body_of, statement_of};
 use crate::statement::Statement;
-use dn_wire::{Bytes, ClientId, Reader, ServerId, SignerId, SlotId};
+use dn_wire::{Bytes, ClientId, MAX_STATEMENT_BYTES, Reader, ServerId, SignerId, SlotId};
 use std::alloc::Global;
-
-/// An envelope's statement has at most so many bytes.
-const MAX_STATEMENT: u32 = 16_777_216;
 
 fn signer_of(reader: &mut Reader) -> Result<SignerId, RecordFault>
     ensures { Reads (λ x. x) result reader.new (signer.read reader.old) }
@@ -37,7 +34,7 @@ fn signer_of(reader: &mut Reader) -> Result<SignerId, RecordFault>
 fn inner_statement_of(alloc: Global, reader: &mut Reader) -> Result<Statement, RecordFault>
     ensures { Reads (λ x. x) result reader.new (read_inside (up_to 16777216) statement reader.old) }
 {
-    let count = limited_of(reader, MAX_STATEMENT)?;
+    let count = limited_of(reader, MAX_STATEMENT_BYTES)?;
     let mut inner = inner_of(reader, count as usize)?;
     let statement = statement_of(alloc, &mut inner)?;
     if !inner.rest().is_empty() {

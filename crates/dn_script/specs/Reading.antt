@@ -3,6 +3,7 @@ use Rattle.std.specs.Prelude.{◌≡◌, ℕ, ◌+◌, ◌-◌, ◌==◌, nat_lt
 use Rattle.std.specs.List.{slice_split}
 use Rattle.std.specs.Option.{option_map_or}
 use Rattle.std.specs.Str.{bytes_eq}
+use Rattle.dn_wire.specs.declared.limits.TheConstants.{MAX_SCRIPT_LINES}
 use Rattle.dn_io.specs.declared.cause.Cause.{Cause}
 use Rattle.dn_io.specs.declared.cause.Cause.TheVariants.{Unbuilt, Missing}
 use Rattle.dn_wire.specs.declared.ids.ClientId.{ClientId}
@@ -95,7 +96,7 @@ next_line (Whole p) line = None
 
 -- a script has at most so many lines
 abbrev pub line_limit : ℕ
-line_limit = 65536
+line_limit = MAX_SCRIPT_LINES
 
 -- what has been read with line n more
 abbrev pub line_read : ℕ → Reading → List ℕ → Option Reading

@@ -6,14 +6,8 @@ use crate::fields::{LineFault, bits, cut, number, seed, split};
 use crate::line::PlainLine;
 use crate::script::PlainScript;
 use dn_io::Cause;
-use dn_wire::{ClientId, MAX_BITS, MAX_CLIENTS, MAX_SERVERS};
+use dn_wire::{ClientId, MAX_BITS, MAX_CLIENTS, MAX_SCRIPT_LINES, MAX_SERVERS, MAX_TICKS};
 use std::alloc::Global;
-
-/// A script has at most so many lines.
-const LINE_LIMIT: u64 = 65_536;
-
-/// A line lets at most so many ticks pass.
-const MAX_TICKS: u32 = 100;
 
 /// What has been read of a script: nothing, its first line and some of those behind it, or all.
 #[derive(Drop)]
@@ -161,7 +155,7 @@ fn line_read(
 ) -> Result<Reading, LineFault>
     ensures { Gives (λ r. r) result (line_read number reading text.now) }
 {
-    if number > LINE_LIMIT {
+    if number > MAX_SCRIPT_LINES {
         return Err(LineFault::Form);
     }
     next_line(alloc, reading, text)

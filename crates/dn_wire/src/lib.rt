@@ -13,7 +13,9 @@ mod writing;
 pub use bytes::Bytes;
 pub use ids::{ClientId, Member, Round, ServerId, SignerId, SlotId};
 pub use limits::{
-    MAX_BITS, MAX_CLIENTS, MAX_ROUND, MAX_SERVERS, MAX_SLOT_BYTES, MAX_TEXT, MIN_SLOT_BYTES,
+    MAX_BITS, MAX_CARRIED_BYTES, MAX_CLIENTS, MAX_FLIGHT, MAX_FLOW, MAX_LIVE_TURNS, MAX_RACE_LIST,
+    MAX_RACE_WORKERS, MAX_REPORT_BYTES, MAX_ROUND, MAX_SCRIPT_BYTES, MAX_SCRIPT_LINES, MAX_SERVERS,
+    MAX_SLOT_BYTES, MAX_STATEMENT_BYTES, MAX_TEXT, MAX_TICKS, MIN_SLOT_BYTES,
 };
 pub use members::MemberList;
 pub use reader::{FieldFault, Reader};
