@@ -1,5 +1,6 @@
 -- The messages in flight, as a list in order of their numbers.
 use Rattle.std.specs.Prelude.{◌≡◌, ℕ, ◌+◌, ◌≤◌, ◌⊎◌, List, [], ◌∷◌, Bool, false, cond, not, ◌==◌, nat_lt, length, filter, Option, Some, None}
+use Rattle.dn_wire.specs.declared.limits.TheConstants.{MAX_FLIGHT}
 use Rattle.dn_wire.specs.declared.ids.Member.{Member}
 use Rattle.dn_wire.specs.declared.ids.Member.TheVariants.{Client, Server}
 use Rattle.dn_flight.specs.declared.msg.Msg.{Msg}
@@ -50,7 +51,7 @@ next_in id (Some x) msgs = first_id (after_id id (all_to x.to msgs))
 
 -- no further message may be put
 abbrev pub IsFull : FlightView → Type 0
-IsFull f = (65536 ≤ length f.msgs) ⊎ (f.next ≡ 18446744073709551615)
+IsFull f = (MAX_FLIGHT ≤ length f.msgs) ⊎ (f.next ≡ 18446744073709551615)
 
 -- the numbers ascend, from low on, and are below next
 abbrev pub AreFrom : ℕ → List Msg → ℕ → Type 0

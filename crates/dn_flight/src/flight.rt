@@ -1,17 +1,15 @@
 ghost use Rattle.std.specs.Prelude.{◌≡◌, ◌↔◌, ◌+◌, ◌*◌, ◌<◌, ◌≤◌, ◌++◌, ◌∷◌, [], Err, IfOk, OnErr, length, filter, not, count_by, ℕ};
+ghost use Rattle.dn_wire.specs.declared.limits.TheConstants.{MAX_FLIGHT};
 ghost use Rattle.dn_flight.specs.Flight.{IsFull, AreFrom, is_from, with_id, without_id, first_id, after_id, all_to, next_in};
 
 use crate::msg::Msg;
 use crate::wanted::{Gone, Wanted, first_wanted, keep};
 use dn_memory::NoMemory;
 use dn_nodes::Steps;
-use dn_wire::Member;
+use dn_wire::{MAX_FLIGHT, Member};
 use std::alloc::Global;
 use std::marker::Model;
 use std::sync::ledger::Ledger;
-
-/// The greatest number of messages in flight.
-const MOST: usize = 65536;
 
 /// Why a message wasn't put.
 #[derive(Clone, Copy, Debug, PartialEq, Eq)]
@@ -30,13 +28,14 @@ pub struct Flight {
 
 impl Model for Flight {
     ghost use Rattle.std.specs.Prelude.{◌≤◌, length};
+    ghost use Rattle.dn_wire.specs.declared.limits.TheConstants.{MAX_FLIGHT};
     ghost use Rattle.dn_flight.specs.Flight.{FlightView, AreFrom};
 
     ghost Value = { FlightView };
 
     ghost view = { λ f. record { msgs = f.msgs.items; next = f.next } };
 
-    ghost invariant = { λ f. AreFrom 0 f.msgs.items f.next × (length f.msgs.items ≤ 65536) };
+    ghost invariant = { λ f. AreFrom 0 f.msgs.items f.next × (length f.msgs.items ≤ MAX_FLIGHT) };
 }
 
 impl Flight {
@@ -56,7 +55,7 @@ impl Flight {
         ensures full { (result ≡ Err PutFault.Full) ↔ IsFull self.old }
         ensures refused { OnErr result (self.new ≡ self.old) }
     {
-        if self.msgs.len() >= MOST || self.next == u64::MAX {
+        if self.msgs.len() >= MAX_FLIGHT as usize || self.next == u64::MAX {
             return Err(PutFault::Full);
         }
         if self.msgs.reserve(1).is_err() {
@@ -146,7 +145,7 @@ impl Flight {
 
     /// The messages are in order of their numbers, which are below the next one, and are at most 65,536.
     pub fn order(&self)
-        ensures { AreFrom 0 self.now.msgs self.now.next × (length self.now.msgs ≤ 65536) }
+        ensures { AreFrom 0 self.now.msgs self.now.next × (length self.now.msgs ≤ MAX_FLIGHT) }
     {
         let _ = &self.msgs;
     }
