@@ -9,7 +9,7 @@
 set -euo pipefail
 top=$(cd "$(dirname "$0")/.." && pwd)
 folder=${1:-$top/../shared/vectors/known}
-files='pads.txt digests.txt window.txt layout.txt blocks.txt lms.txt bouncy_castle_lms.txt records.txt dealing.txt check.txt'
+files='pads.txt digests.txt window.txt layout.txt blocks.txt blocks_2.txt lms.txt bouncy_castle_lms.txt records.txt records_2.txt dealing.txt dealing_2.txt check.txt check_2.txt'
 
 if [ ! -d "$folder" ]; then
     echo "known answers: skipped, no folder $folder"
