@@ -138,7 +138,7 @@ impl Body {
             thin: self.thin,
             listed: self.listed.copy(alloc)?,
             digests: self.digests.copy(alloc)?,
-            out: self.out.copy()?,
+            out: self.out.copy(alloc)?,
         })
     }
 

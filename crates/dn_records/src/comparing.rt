@@ -201,17 +201,17 @@ impl Statement {
             }),
             Statement::Reveal { r, s } => Ok(Statement::Reveal {
                 r: *r,
-                s: s.copy()?,
+                s: s.copy(alloc)?,
             }),
             Statement::Sign(value) => Ok(Statement::Sign(value.copy(alloc)?)),
             Statement::PadBits { r, k, bits } => Ok(Statement::PadBits {
                 r: *r,
                 k: *k,
-                bits: bits.copy()?,
+                bits: bits.copy(alloc)?,
             }),
             Statement::Shown { r, s, shown } => Ok(Statement::Shown {
                 r: *r,
-                s: s.copy()?,
+                s: s.copy(alloc)?,
                 shown: shown.copy(alloc)?,
             }),
             Statement::Accusation { r, slot, k } => Ok(Statement::Accusation {

@@ -68,7 +68,7 @@ impl ShownCipher {
     {
         Ok(ShownCipher {
             client: self.client,
-            cipher: self.cipher.copy()?,
+            cipher: self.cipher.copy(alloc)?,
         })
     }
 
