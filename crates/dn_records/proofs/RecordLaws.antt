@@ -19,7 +19,8 @@ use Rattle.dn_records.specs.declared.fault.RecordFault.TheVariants as faults
 use Rattle.dn_records.specs.Part.{Read, Part, made, ◌⋈◌, led_by, whole, Gives}
 use Rattle.dn_records.specs.Fields.{read_byte, read_flag, short, word, long, up_to, few, flag, exactly, sized, bits, round, client, server, slot, digest}
 use Rattle.dn_records.specs.Lists.{rows, several, inside}
-use Rattle.dn_records.specs.Records.{entry, inventory, listed, shown_cipher, spell_thin, read_thin, thin_in, body_fields, body, word_told, told_byte, told, submission, receipt, commit, reveal, pad_bits, shown, accusation, rebuttal, concede, read_submission, read_receipt, read_inventory, read_commit, read_reveal, read_sign, read_pad_bits, read_shown, read_accusation, read_rebuttal, read_concede, read_kind, statement_bytes, IsStatement, read_statement, statement, statement_of, body_bytes, IsBody, body_of, signer_of, signer_numbers, signer, signed, envelope_bytes, IsEnvelope, envelope_of, certificate, challenge, payload_bytes, IsPayload, read_tag, read_cipher, read_certificate, read_challenge, payload_of}
+use Rattle.dn_wire.specs.Signer.{signer_tag, number_of}
+use Rattle.dn_records.specs.Records.{entry, inventory, listed, shown_cipher, spell_thin, read_thin, thin_in, body_fields, body, word_told, told_byte, told, submission, receipt, commit, reveal, pad_bits, shown, accusation, rebuttal, concede, read_submission, read_receipt, read_inventory, read_commit, read_reveal, read_sign, read_pad_bits, read_shown, read_accusation, read_rebuttal, read_concede, read_kind, statement_bytes, IsStatement, read_statement, statement, statement_of, body_bytes, IsBody, body_of, tagged_signer, signer, signed, envelope_bytes, IsEnvelope, envelope_of, certificate, challenge, payload_bytes, IsPayload, read_tag, read_cipher, read_certificate, read_challenge, payload_of}
 use Rattle.dn_records.proofs.Laws.{IsBytes, bind_ok, passed, ok_is, Took, Took-then, Took-nothing, before, behind, IsExact, both, led, like}
 use Rattle.dn_records.proofs.FieldLaws.{byte_exact, short_exact, word_exact, long_exact, up_to_exact, few_exact, flag_exact, exactly_exact, sized_exact}
 use Rattle.dn_records.proofs.BitLaws.{bits_exact}
@@ -404,20 +405,23 @@ body_again x fits = whole_knows body body_exact x 0 fits
 
 -- ---- envelopes
 
-signer_there_at : (t n : ℕ) → (1 ≤ t) × (t ≤ 3) → signer_numbers (signer_of (t, n)) ≡ (t, n)
+abbrev numbers : SignerId → ℕ × ℕ
+numbers who = (signer_tag who, number_of who)
+
+signer_there_at : (t n : ℕ) → (1 ≤ t) × (t ≤ 3) → numbers (tagged_signer (t, n)) ≡ (t, n)
 signer_there_at zero n h = absurd (omega arith)
 signer_there_at (suc zero) n h = refl
 signer_there_at (suc (suc zero)) n h = refl
 signer_there_at (suc (suc (suc zero))) n h = refl
 signer_there_at (suc (suc (suc (suc t)))) n h = absurd (omega arith)
 
-signer_again : (s : SignerId) → signer_of (signer_numbers s) ≡ s
+signer_again : (s : SignerId) → tagged_signer (numbers s) ≡ s
 signer_again (signers.Client i) = refl
 signer_again (signers.Server j) = refl
 signer_again (signers.Slot s) = refl
 
 signer_exact : IsExact signer
-signer_exact = like signer_of signer_numbers (few 3 ⋈ word) (λ a h. signer_there_at a.0 a.1 h.0) signer_again (both (few 3) word (few_exact 3 (omega arith)) word_exact)
+signer_exact = like tagged_signer numbers (few 3 ⋈ word) (λ a h. signer_there_at a.0 a.1 h.0) signer_again (both (few 3) word (few_exact 3 (omega arith)) word_exact)
 
 signed_exact : IsExact signed
 signed_exact = both signer (inside (up_to 16777216) statement) signer_exact (inside_exact (up_to 16777216) statement (up_to_exact 16777216 (omega arith)) statement_exact)

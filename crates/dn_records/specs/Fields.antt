@@ -4,6 +4,7 @@ use Rattle.std.specs.Int.{Width, w16, w32, w64, to_be_bytes}
 use Rattle.dn_bits.specs.Bits.{first_bits, bytes_of}
 use Rattle.dn_wire.specs.Cursor.{Cursor}
 use Rattle.dn_wire.specs.Fields.{byte_at, number_at, bytes_at, inner_at, limited_at}
+use Rattle.dn_wire.specs.declared.limits.TheConstants.{MAX_BITS}
 use Rattle.dn_wire.specs.declared.ids.ClientId.{ClientId}
 use Rattle.dn_wire.specs.declared.ids.ServerId.{ServerId}
 use Rattle.dn_wire.specs.declared.ids.SlotId.{SlotId}
@@ -79,11 +80,11 @@ ends_in_zeros bytes n = slice_index bytes (length bytes - 1) % 2 ^ (8 * length b
 -- a bit string: the number of its bits and its bytes, whose bits after the last are zeros
 unfoldable pub read_bits : Cursor → Read (List Bool)
 read_bits c =
-    read_limited 65536 c >>= λ n. read_bytes ((n.0 + 7) / 8) n.1
+    read_limited MAX_BITS c >>= λ n. read_bytes ((n.0 + 7) / 8) n.1
     >>= λ bytes. if ends_in_zeros bytes.0 n.0 then Ok (first_bits bytes.0 n.0, bytes.1) else Err (Shape (bytes.1.at - 1))
 
 abbrev pub bits : Part (List Bool)
-bits = record { spell = λ b. spell_number w32 (length b) ++ bytes_of b; read = read_bits; Fits = λ b. length b ≤ 65536 }
+bits = record { spell = λ b. spell_number w32 (length b) ++ bytes_of b; read = read_bits; Fits = λ b. length b ≤ MAX_BITS }
 
 abbrev pub round : Part Round
 round = seen (λ n. record { 0 = n }) (λ r. r.0) long

@@ -3,6 +3,7 @@ use Rattle.std.specs.Prelude.{ℕ, zero, suc, ◌+◌, ◌≤◌, nat_lt, ◌==�
 use Rattle.std.specs.Int.{w32}
 use Rattle.std.specs.List.{flat_map, AllByRecursion}
 use Rattle.dn_wire.specs.Cursor.{Cursor}
+use Rattle.dn_wire.specs.declared.limits.TheConstants.{MAX_CLIENTS}
 use Rattle.dn_wire.specs.declared.ids.ClientId.{ClientId}
 use Rattle.dn_records.specs.declared.fault.RecordFault.TheVariants.{Shape, Trailing}
 use Rattle.dn_records.specs.Part.{Part, Read, ◌>>=◌}
@@ -62,12 +63,12 @@ spell_row w x = client.spell (w.key x) ++ w.part.spell (w.rest x)
 abbrev pub FitsRow : {B : Type 0} → Row B → B → Type 0
 FitsRow w x = client.Fits (w.key x) × w.part.Fits (w.rest x)
 
--- at most 512 of them behind their number, whose clients ascend
+-- at most as many of them as a group has clients, behind their number, whose clients ascend
 abbrev pub rows : {B : Type 0} → Row B → Part (List B)
 rows w = record {
   spell = λ xs. spell_number w32 (length xs) ++ flat_map (spell_row w) xs;
-  read = λ c. read_limited 512 c >>= λ n. read_rows w n.0 n.1;
-  Fits = λ xs. (length xs ≤ 512) × Ascend (map w.key xs) × AllByRecursion (FitsRow w) xs;
+  read = λ c. read_limited MAX_CLIENTS c >>= λ n. read_rows w n.0 n.1;
+  Fits = λ xs. (length xs ≤ MAX_CLIENTS) × Ascend (map w.key xs) × AllByRecursion (FitsRow w) xs;
 }
 
 -- a value inside bytes whose number stands before them: where they are too few, the bytes are cut,

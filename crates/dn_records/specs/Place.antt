@@ -1,4 +1,4 @@
--- Places: a server makes at most one statement for each.
+-- Places: who keeps to the protocol signs at most one statement for each.
 use Rattle.std.specs.Prelude.{ℕ, Option, Some, None}
 use Rattle.dn_wire.specs.declared.ids.ClientId.{ClientId}
 use Rattle.dn_wire.specs.declared.ids.Round.{Round}

@@ -1,6 +1,8 @@
 -- Each record as its parts.
 use Rattle.std.specs.Prelude.{◌≡◌, ℕ, Bool, false, IsTrue, List, [], ◌∷◌, ◌++◌, Result, Ok, Err, ◌==◌, if◌then◌else◌}
 use Rattle.dn_wire.specs.Cursor.{Cursor, start}
+use Rattle.dn_wire.specs.Signer.{signer_tag, number_of}
+use Rattle.dn_wire.specs.declared.limits.TheConstants.{MAX_SERVERS, MAX_STATEMENT_BYTES, MAX_CARRIED_BYTES}
 use Rattle.dn_wire.specs.declared.ids.ClientId.{ClientId}
 use Rattle.dn_wire.specs.declared.ids.ServerId.{ServerId}
 use Rattle.dn_wire.specs.declared.ids.SlotId.{SlotId}
@@ -67,7 +69,7 @@ thin_in version = record { spell = spell_thin version; read = read_thin version;
 
 -- what follows the version of a body
 abbrev pub body_fields : ℕ → Part (Round × (Round × (Bool × (List Listed × (List (List ℕ) × List Bool)))))
-body_fields version = round ⋈ round ⋈ thin_in version ⋈ rows listed ⋈ several (up_to 16) digest ⋈ bits
+body_fields version = round ⋈ round ⋈ thin_in version ⋈ rows listed ⋈ several (up_to MAX_SERVERS) digest ⋈ bits
 
 -- the body, of version 1 or 2
 abbrev pub body : Part Body
@@ -109,7 +111,7 @@ abbrev pub accusation : Part (Round × (SlotId × ℕ))
 accusation = round ⋈ slot ⋈ word
 
 abbrev pub rebuttal : Part (Round × (ℕ × (ServerId × (List ℕ × List ℕ))))
-rebuttal = round ⋈ word ⋈ server ⋈ exactly 32 ⋈ sized (up_to 65535)
+rebuttal = round ⋈ word ⋈ server ⋈ exactly 32 ⋈ sized (up_to MAX_CARRIED_BYTES)
 
 abbrev pub concede : Part (Round × ℕ)
 concede = round ⋈ word
@@ -230,24 +232,19 @@ IsBody b = body.Fits b
 unfoldable pub body_of : List ℕ → Result Body RecordFault
 body_of bytes = whole body (start bytes)
 
--- envelopes
-abbrev pub signer_of : ℕ × ℕ → SignerId
-signer_of x =
+-- envelopes; a signer is its tag and its number
+abbrev pub tagged_signer : ℕ × ℕ → SignerId
+tagged_signer x =
     if x.0 == 1 then signers.Client (record { 0 = x.1 })
     else if x.0 == 2 then signers.Server (record { 0 = x.1 })
     else signers.Slot (record { 0 = x.1 })
 
-abbrev pub signer_numbers : SignerId → ℕ × ℕ
-signer_numbers (signers.Client i) = (1, i.0)
-signer_numbers (signers.Server j) = (2, j.0)
-signer_numbers (signers.Slot s) = (3, s.0)
-
 abbrev pub signer : Part SignerId
-signer = seen signer_of signer_numbers (few 3 ⋈ word)
+signer = seen tagged_signer (λ who. (signer_tag who, number_of who)) (few 3 ⋈ word)
 
 -- what stands before the signature, which is all that is left
 abbrev pub signed : Part (SignerId × Statement)
-signed = signer ⋈ inside (up_to 16777216) statement
+signed = signer ⋈ inside (up_to MAX_STATEMENT_BYTES) statement
 
 unfoldable pub envelope_bytes : Envelope → List ℕ
 envelope_bytes e = signed.spell (e.signer, e.statement) ++ e.signature
@@ -263,7 +260,7 @@ abbrev pub certificate : Part (Body × List (List ℕ))
 certificate = inside word body ⋈ several word (sized short)
 
 abbrev pub challenge : Part (Round × (ℕ × List (List ℕ)))
-challenge = round ⋈ word ⋈ several (up_to 16) (sized word)
+challenge = round ⋈ word ⋈ several (up_to MAX_SERVERS) (sized word)
 
 unfoldable pub payload_bytes : Payload → List ℕ
 payload_bytes (payloads.Submission cipher e) = 1 ∷ bits.spell cipher ++ e

@@ -1,8 +1,9 @@
 // Writing statements, envelopes and payloads.
 
 ghost use Rattle.std.specs.Prelude.{◌≡◌, ◌<◌, ◌≤◌, ◌++◌, length, OnOk, IfOk};
+ghost use Rattle.dn_wire.specs.declared.limits.TheConstants.{MAX_CLIENTS, MAX_CARRIED_BYTES};
 ghost use Rattle.dn_records.specs.Fields.{bits};
-ghost use Rattle.dn_records.specs.Records.{told_byte, kind_byte, spell_fields, submission, receipt, commit, reveal, pad_bits, shown, accusation, rebuttal, concede, statement_bytes, IsStatement, body_bytes, IsBody, signer, envelope_bytes, IsEnvelope, payload_bytes, IsPayload, certificate, challenge};
+ghost use Rattle.dn_records.specs.Records.{told_byte, kind_byte, spell_fields, submission, receipt, commit, reveal, pad_bits, shown, accusation, rebuttal, concede, statement_bytes, IsStatement, body_bytes, IsBody, envelope_bytes, IsEnvelope, payload_bytes, IsPayload, certificate, challenge};
 
 use crate::body::Body;
 use crate::byte_lists::ByteLists;
@@ -16,7 +17,7 @@ use crate::writing::{
 };
 use dn_bits::Bits;
 use dn_memory::NoMemory;
-use dn_wire::{Bytes, ClientId, Round, ServerId, SignerId, SlotId, put_bytes, put_u8};
+use dn_wire::{Bytes, ClientId, Round, ServerId, SlotId, put_bytes, put_signer, put_u8};
 use std::alloc::Global;
 
 fn put_submission(
@@ -93,7 +94,7 @@ fn put_shown(
     s: &Bits,
     list: &Shows,
 ) -> Result<(), NoMemory>
-    requires { length list.now ≤ 512 }
+    requires { length list.now ≤ MAX_CLIENTS }
     ensures { OnOk result (out.new.items ≡ out.old.items ++ shown.spell (r, (s.now, list.now))) }
 {
     put_long(out, r.0)?;
@@ -117,7 +118,7 @@ fn put_rebuttal(
     seed: &[u8; 32],
     envelope: &Bytes,
 ) -> Result<(), NoMemory>
-    requires { length envelope.now ≤ 65535 }
+    requires { length envelope.now ≤ MAX_CARRIED_BYTES }
     ensures { OnOk result (out.new.items ≡ out.old.items ++ rebuttal.spell (r, (k, (server, (seed.now, envelope.now))))) }
 {
     put_long(out, r.0)?;
@@ -210,20 +211,8 @@ pub fn encode_body(alloc: Global, b: &Body) -> Result<Vec<u8>, NoMemory>
     Ok(out)
 }
 
-fn put_signer(out: &mut Vec<u8>, who: SignerId) -> Result<(), NoMemory>
-    ensures { OnOk result (out.new.items ≡ out.old.items ++ signer.spell who) }
-{
-    let (tag, id) = match who {
-        SignerId::Client(i) => (1, i.0),
-        SignerId::Server(j) => (2, j.0),
-        SignerId::Slot(s) => (3, s.0),
-    };
-    put_u8(out, tag)?;
-    put_word(out, id)
-}
-
 /// The envelope's bytes: the signer, the statement behind its length, and the signature.
-#[tactic(auto, unfolding(crate::specs::Records::envelope_bytes))]
+#[tactic(auto, unfolding(crate::specs::Records::envelope_bytes, crate::specs::Fields::spell_number))]
 pub fn encode_envelope(alloc: Global, e: &Envelope) -> Result<Vec<u8>, NoMemory>
     requires { IsEnvelope e.now }
     ensures { IfOk result (λ v. v.items ≡ envelope_bytes e.now) }

@@ -134,7 +134,7 @@ fn digest_list(alloc: Global, reader: &mut Reader, count: u32) -> Result<Vec<[u8
 }
 
 pub fn digests_of(alloc: Global, reader: &mut Reader) -> Result<Digests, RecordFault>
-    ensures { Reads (λ x. x) result reader.new ((several (up_to 16) digest).read reader.old) }
+    ensures { Reads (λ x. x) result reader.new ((several (up_to MAX_SERVERS) digest).read reader.old) }
 {
     let count = limited_of(reader, MAX_SERVERS)?;
     Ok(Digests::of(digest_list(alloc, reader, count)?))
@@ -170,7 +170,7 @@ fn envelope_list(alloc: Global, reader: &mut Reader, count: u32) -> Result<Vec<B
 }
 
 pub fn envelopes_of(alloc: Global, reader: &mut Reader) -> Result<ByteLists, RecordFault>
-    ensures { Reads (λ x. x) result reader.new ((several (up_to 16) (sized word)).read reader.old) }
+    ensures { Reads (λ x. x) result reader.new ((several (up_to MAX_SERVERS) (sized word)).read reader.old) }
 {
     let count = limited_of(reader, MAX_SERVERS)?;
     Ok(ByteLists::of(envelope_list(alloc, reader, count)?))

@@ -32,7 +32,7 @@ fn signer_of(reader: &mut Reader) -> Result<SignerId, RecordFault>
 /// A statement behind the number of its bytes.
 #[tactic(auto, unfolding(crate::specs::Lists::read_inside))]
 fn inner_statement_of(alloc: Global, reader: &mut Reader) -> Result<Statement, RecordFault>
-    ensures { Reads (λ x. x) result reader.new (read_inside (up_to 16777216) statement reader.old) }
+    ensures { Reads (λ x. x) result reader.new (read_inside (up_to MAX_STATEMENT_BYTES) statement reader.old) }
 {
     let count = limited_of(reader, MAX_STATEMENT_BYTES)?;
     let mut inner = inner_of(reader, count as usize)?;

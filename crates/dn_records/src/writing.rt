@@ -2,6 +2,7 @@
 
 ghost use Rattle.std.specs.Prelude.{◌≡◌, ◌<◌, ◌≤◌, ◌^◌, ◌++◌, length, OnOk};
 ghost use Rattle.std.specs.List.{AllByRecursion, flat_map};
+ghost use Rattle.dn_wire.specs.declared.limits.TheConstants.{MAX_CLIENTS, MAX_SERVERS};
 ghost use Rattle.dn_records.specs.Fields.{short, word, long, up_to, sized, bits, digest};
 ghost use Rattle.dn_records.specs.Lists.{spell_row, FitsRow, rows, several};
 ghost use Rattle.dn_records.specs.Records.{entry, listed, shown_cipher, inventory, thin_in, body};
@@ -152,7 +153,7 @@ fn put_entries(out: &mut Vec<u8>, list: &Entries) -> Result<(), NoMemory>
 }
 
 fn put_rows(out: &mut Vec<u8>, list: &Rows) -> Result<(), NoMemory>
-    requires { length list.now ≤ 512 }
+    requires { length list.now ≤ MAX_CLIENTS }
     ensures { OnOk result (out.new.items ≡ out.old.items ++ (rows listed).spell list.now) }
 {
     let items = list.get();
@@ -161,7 +162,7 @@ fn put_rows(out: &mut Vec<u8>, list: &Rows) -> Result<(), NoMemory>
 }
 
 pub fn put_shows(alloc: Global, out: &mut Vec<u8>, list: &Shows) -> Result<(), NoMemory>
-    requires { length list.now ≤ 512 }
+    requires { length list.now ≤ MAX_CLIENTS }
     ensures { OnOk result (out.new.items ≡ out.old.items ++ (rows shown_cipher).spell list.now) }
 {
     let items = list.get();
@@ -170,8 +171,8 @@ pub fn put_shows(alloc: Global, out: &mut Vec<u8>, list: &Shows) -> Result<(), N
 }
 
 fn put_digests(out: &mut Vec<u8>, list: &Digests) -> Result<(), NoMemory>
-    requires { length list.now ≤ 16 }
-    ensures { OnOk result (out.new.items ≡ out.old.items ++ (several (up_to 16) digest).spell list.now) }
+    requires { length list.now ≤ MAX_SERVERS }
+    ensures { OnOk result (out.new.items ≡ out.old.items ++ (several (up_to MAX_SERVERS) digest).spell list.now) }
 {
     let items = list.get();
     put_word(out, items.len() as u32)?;
@@ -188,8 +189,8 @@ pub fn put_signatures(out: &mut Vec<u8>, list: &ByteLists) -> Result<(), NoMemor
 }
 
 pub fn put_envelopes(out: &mut Vec<u8>, list: &ByteLists) -> Result<(), NoMemory>
-    requires { (several (up_to 16) (sized word)).Fits list.now }
-    ensures { OnOk result (out.new.items ≡ out.old.items ++ (several (up_to 16) (sized word)).spell list.now) }
+    requires { (several (up_to MAX_SERVERS) (sized word)).Fits list.now }
+    ensures { OnOk result (out.new.items ≡ out.old.items ++ (several (up_to MAX_SERVERS) (sized word)).spell list.now) }
 {
     let items = list.get();
     put_word(out, items.len() as u32)?;

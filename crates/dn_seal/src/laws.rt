@@ -3,7 +3,8 @@ ghost use Rattle.std.specs.Prelude.{◌≡◌, ℕ, ◌+◌, ◌*◌, ◌<◌, �
 ghost use Rattle.dn_wire.specs.declared.ids.SignerId.{SignerId};
 ghost use Rattle.dn_hash.specs.Digests.{seed_commitment_of};
 ghost use Rattle.dn_lms.specs.Signature.{public_key};
-ghost use Rattle.dn_roster.specs.Dealing.{mask_secret_of, number_of};
+ghost use Rattle.dn_wire.specs.Signer.{number_of};
+ghost use Rattle.dn_roster.specs.Dealing.{mask_secret_of};
 ghost use Rattle.dn_roster.specs.Roster.{key_of, commitment_of};
 ghost use Rattle.dn_records.specs.declared.statement.Statement.{Statement};
 ghost use Rattle.dn_roster.specs.Roster.{RosterView};

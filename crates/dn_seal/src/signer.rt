@@ -13,7 +13,7 @@ use dn_lms::{KeyPair, SigKey};
 use dn_memory::NoMemory;
 use dn_records::{Statement, encode};
 use dn_roster::Roster;
-use dn_wire::{SignerId, put_bytes, put_u8, put_u32};
+use dn_wire::{SignerId, put_bytes, put_signer, put_u32};
 use std::alloc::Global;
 use std::marker::Model;
 
@@ -102,13 +102,7 @@ fn put_statement(out: &mut Vec<u8>, who: SignerId, statement: &[u8]) -> Result<(
     requires { length statement.now < 2 ^ 32 }
     ensures { OnOk result (out.new.items ≡ out.old.items ++ heading who (length statement.now) ++ statement.now) }
 {
-    let (tag, number) = match who {
-        SignerId::Client(i) => (1, i.0),
-        SignerId::Server(j) => (2, j.0),
-        SignerId::Slot(s) => (3, s.0),
-    };
-    put_u8(out, tag)?;
-    put_u32(out, number)?;
+    put_signer(out, who)?;
     put_u32(out, statement.len() as u32)?;
     put_bytes(out, statement)?;
     Ok(())
