@@ -1,5 +1,5 @@
 // Layouts.
-ghost use Rattle.std.specs.Prelude.{◌≡◌, ◌+◌, ◌*◌, ◌<◌, ◌≤◌, length, replicate, sum, IfOk, IfSome, IsSome, ◌↔◌};
+ghost use Rattle.std.specs.Prelude.{◌≡◌, ◌+◌, ◌*◌, ◌<◌, ◌≤◌, length, replicate, sum, slice_index, IfOk, IfSome, IsSome, ◌↔◌};
 ghost use Rattle.dn_bits.specs.Bits.{bytes_of};
 ghost use Rattle.dn_layout.specs.Layout.{bits_of, range_of, next_of, want_of, given_of, IsLayout};
 
@@ -161,8 +161,20 @@ impl Layout {
     pub fn bits(&self) -> u32
         ensures bits { result ≡ bits_of self.now }
         ensures limit { result ≤ MAX_BITS }
+        ensures layout { IsLayout self.now }
     {
         self.bits
+    }
+
+    /// The length in bytes of slot s, and 0 where it is closed or there is no such slot.
+    pub fn size(&self, s: SlotId) -> u16
+        ensures size { result ≡ slice_index self.now s.0 }
+        ensures layout { IsLayout self.now }
+    {
+        match self.lengths.get(s.0 as usize) {
+            Some(len) => *len,
+            None => 0,
+        }
     }
 
     /// The first place of slot s and the place past its last, and nothing where it is closed or there is no such slot.

@@ -19,9 +19,10 @@ const MASK_SECRETS: u64 = 5;
 
 const OWNER_NUMBERS: u64 = 6;
 
-/// Writes the words of a stream from a place on, as many as the bytes have.
+/// Fills the bytes with the words of a stream of a seed's keystream, from a place on. A place counts words of four bytes, from 0, and
+/// each word gives its low byte first. Streams 1 to 6 are the group's own.
 #[tactic(auto, unfolding(crate::specs::Dealing::dealt))]
-fn deal_into(seed: &[u8; 32], stream: u64, place: u128, bytes: &mut [u8])
+pub fn deal_into(seed: &[u8; 32], stream: u64, place: u128, bytes: &mut [u8])
     requires whole { length bytes.old % 4 ≡ 0 }
     requires small { place + length bytes.old < 2 ^ 68 }
     ensures { bytes.new ≡ dealt seed.now stream place (length bytes.old / 4) }

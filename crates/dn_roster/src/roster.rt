@@ -176,7 +176,6 @@ impl Roster {
     }
 
     /// The bytes that this signer signs to make a statement in this group.
-    #[tactic(auto, unfolding(crate::specs::Roster::signed_bytes_of))]
     pub fn signed_bytes(
         &self,
         alloc: Global,
@@ -185,11 +184,24 @@ impl Roster {
     ) -> Result<Vec<u8>, NoMemory>
         ensures { IfOk result (λ v. v.items ≡ signed_bytes_of (digest_of self.now) who statement.now) }
     {
-        let mut out = Vec::with_capacity(alloc, statement.len().saturating_add(43))?;
-        put_bytes(&mut out, b"dnstmt")?;
-        put_bytes(&mut out, &self.digest)?;
-        put_signer(&mut out, who)?;
-        put_bytes(&mut out, statement)?;
-        Ok(out)
+        signed_bytes_in(alloc, &self.digest, who, statement)
     }
+}
+
+/// The bytes that a signer signs to make a statement in the group with this digest. A member that keeps no roster signs by these.
+#[tactic(auto, unfolding(crate::specs::Roster::signed_bytes_of))]
+pub fn signed_bytes_in(
+    alloc: Global,
+    digest: &[u8; 32],
+    who: SignerId,
+    statement: &[u8],
+) -> Result<Vec<u8>, NoMemory>
+    ensures { IfOk result (λ v. v.items ≡ signed_bytes_of digest.now who statement.now) }
+{
+    let mut out = Vec::with_capacity(alloc, statement.len().saturating_add(43))?;
+    put_bytes(&mut out, b"dnstmt")?;
+    put_bytes(&mut out, digest)?;
+    put_signer(&mut out, who)?;
+    put_bytes(&mut out, statement)?;
+    Ok(out)
 }

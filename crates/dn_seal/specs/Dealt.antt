@@ -46,10 +46,10 @@ abbrev pub slot : ℕ → SignerId
 slot s = Slot record { 0 = s }
 
 -- the signer of a kind and number
-abbrev pub signer_of : Kind → ℕ → SignerId
-signer_of kinds.Client i = client i
-signer_of kinds.Server j = server j
-signer_of kinds.Slot s = slot s
+abbrev pub nth_signer : Kind → ℕ → SignerId
+nth_signer kinds.Client i = client i
+nth_signer kinds.Server j = server j
+nth_signer kinds.Slot s = slot s
 
 -- the keys of the first n signers of a kind
 abbrev pub keys_dealt_to : GroupSpec → (ℕ → SignerId) → ℕ → List Key

@@ -31,7 +31,11 @@ CanSign who s = IsEnvelope (envelope who s [])
 abbrev pub IsLeafLost : ℕ → List ℕ → List ℕ → Type 0
 IsLeafLost count old new = (new ≡ old) ⊎ ((q : ℕ) × (q < count) × (new ≡ old ++ q ∷ []))
 
--- the bytes of the envelope that this key makes at leaf q
+-- the bytes of the envelope that this key makes at leaf q, in the group with this digest
+abbrev pub sealed_in : List ℕ → SignerId → Key → ℕ → Statement → List ℕ
+sealed_in digest who key q s =
+    envelope_bytes (envelope who s (lms_signature key q (signed_bytes_of digest who (statement_bytes s))))
+
+-- in the group of this roster
 abbrev pub sealed_bytes : RosterView → SignerId → Key → ℕ → Statement → List ℕ
-sealed_bytes roster who key q s =
-    envelope_bytes (envelope who s (lms_signature key q (signed_bytes_of (digest_of roster) who (statement_bytes s))))
+sealed_bytes roster who key q s = sealed_in (digest_of roster) who key q s
