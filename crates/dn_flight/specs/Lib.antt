@@ -1,2 +1,6 @@
+pub mod Arena
+pub mod Chains
 pub mod Flight
+pub mod Side
 pub mod Wanted
+pub mod Whole
