@@ -33,14 +33,13 @@ times_range n (suc k) p h = dite (ℕ_discrete n p)
     (λ q. omega (arith, ap (λ (t : Bool). cond {A = ℕ} t 1 0) (eq-eqb n p q), times_below (n + 1) k p (omega arith), ap (λ (t : Bool). cond {A = ℕ} t 1 0) (lt-ltb p (n + suc k) (omega arith))))
     (λ ne. let e : n + 1 + k ≡ n + suc k = omega arith in omega (arith, ap (λ (t : Bool). cond {A = ℕ} t 1 0) (ne_eqb n p ne), times_range (n + 1) k p (omega arith), ap (λ (j : ℕ). cond {A = ℕ} (nat_lt p j) 1 0) e))
 
-chain : (nodes : List Node) (n k : ℕ) → n + k ≡ none → ((p : ℕ) → p < none → node_at nodes p ≡ free_node (p + 1)) → IsFree nodes n (range n k)
+chain : (nodes : ℕ → Node) (n k : ℕ) → n + k ≡ none → ((p : ℕ) → p < none → nodes p ≡ free_node (p + 1)) → IsFree nodes n (range n k)
 unfolding range
 chain nodes n zero e h = omega (arith, e)
 chain nodes n (suc k) e h = (refl, subst (λ (p : ℕ). IsFree nodes p (range (n + 1) k)) (sym (ap (λ (x : Node). x.to_after) (h n (omega (arith, e))))) (chain nodes (n + 1) k (omega (arith, e)) h))
 
-pub whole_none : (nodes : List Node) (heads : BTreeMap ℕ Ends) → length nodes ≡ none → ((p : ℕ) → p < none → node_at nodes p ≡ free_node (p + 1)) → ((q : ℕ) → ends_at heads q ≡ no_ends) → IsWhole nodes heads 0 [] 0
-whole_none nodes heads long free ends = record {
-  long = long;
+pub whole_none : (nodes : ℕ → Node) (heads : ℕ → Ends) → ((p : ℕ) → p < none → nodes p ≡ free_node (p + 1)) → ((q : ℕ) → heads q ≡ no_ends) → IsWhole nodes heads 0 [] 0
+whole_none nodes heads free ends = record {
   ids = λ b e a is. absurd (nothing b e a is);
   order = omega arith;
   linked = λ side b x a is. absurd (nothing b x a is);

@@ -48,15 +48,15 @@ flip_eq : (k j : ℕ) → (k == j) ≡ (j == k)
 flip_eq k j = dite (ℕ_discrete k j) (λ q. eq-eqb k j q ∙ sym (eq-eqb j k (sym q))) (λ ne. ne_eqb k j ne ∙ sym (ne_eqb j k (λ z. ne (sym z))))
 
 -- the message with a number is the one at the place that is found
-pub found_msg : (nodes : List Node) (es : List (ℕ × ℕ)) (id : ℕ) → ((b : List (ℕ × ℕ)) (e : ℕ × ℕ) (a : List (ℕ × ℕ)) → es ≡ b ++ e ∷ a → (node_at nodes e.1).id ≡ e.0)
-    → with_id id (msgs_at nodes es) ≡ option_map (λ p. msg_of (node_at nodes p)) (lookup (is_at (nat_cmp id)) es)
+pub found_msg : (nodes : ℕ → Node) (es : List (ℕ × ℕ)) (id : ℕ) → ((b : List (ℕ × ℕ)) (e : ℕ × ℕ) (a : List (ℕ × ℕ)) → es ≡ b ++ e ∷ a → (nodes e.1).id ≡ e.0)
+    → with_id id (msgs_at nodes es) ≡ option_map (λ p. msg_of (nodes p)) (lookup (is_at (nat_cmp id)) es)
 found_msg nodes [] id h = refl
 found_msg nodes (x ∷ es) id h =
-    let same : ((node_at nodes x.1).id == id) ≡ is_at (nat_cmp id) x.0 = ap (λ (k : ℕ). k == id) (h [] x es refl) ∙ flip_eq x.0 id ∙ sym (unsigned_tied id x.0) in
-    ap (λ (t : Bool). cond t (Some (msg_of (node_at nodes x.1))) (with_id id (msgs_at nodes es))) same ∙ by (is_at (nat_cmp id) x.0) (found_msg nodes es id (λ b e a is. h (x ∷ b) e a (ap (λ l. x ∷ l) is)))
+    let same : ((nodes x.1).id == id) ≡ is_at (nat_cmp id) x.0 = ap (λ (k : ℕ). k == id) (h [] x es refl) ∙ flip_eq x.0 id ∙ sym (unsigned_tied id x.0) in
+    ap (λ (t : Bool). cond t (Some (msg_of (nodes x.1))) (with_id id (msgs_at nodes es))) same ∙ by (is_at (nat_cmp id) x.0) (found_msg nodes es id (λ b e a is. h (x ∷ b) e a (ap (λ l. x ∷ l) is)))
   where
-    by : (t : Bool) → with_id id (msgs_at nodes es) ≡ option_map (λ p. msg_of (node_at nodes p)) (lookup (is_at (nat_cmp id)) es)
-        → cond t (Some (msg_of (node_at nodes x.1))) (with_id id (msgs_at nodes es)) ≡ option_map (λ p. msg_of (node_at nodes p)) (cond t (Some x.1) (lookup (is_at (nat_cmp id)) es))
+    by : (t : Bool) → with_id id (msgs_at nodes es) ≡ option_map (λ p. msg_of (nodes p)) (lookup (is_at (nat_cmp id)) es)
+        → cond t (Some (msg_of (nodes x.1))) (with_id id (msgs_at nodes es)) ≡ option_map (λ p. msg_of (nodes p)) (cond t (Some x.1) (lookup (is_at (nat_cmp id)) es))
     by true more = refl
     by false more = more
 
@@ -67,7 +67,7 @@ without_below id low (x ∷ msgs) next lt h =
     ap (λ (t : Bool). cond (not t) (x ∷ without_id id msgs) (without_id id msgs)) (ne_eqb x.id id (λ q. omega (arith, q, lt, h.0)))
     ∙ ap (λ l. x ∷ l) (without_below id (x.id + 1) msgs next (omega (arith, lt, h.0)) h.1)
 
-at_least : (low : ℕ) (b : List Msg) (x : Msg) (a : List Msg) (next : ℕ) → AreFrom low (b ++ x ∷ a) next → low ≤ x.id
+pub at_least : (low : ℕ) (b : List Msg) (x : Msg) (a : List Msg) (next : ℕ) → AreFrom low (b ++ x ∷ a) next → low ≤ x.id
 at_least low [] x a next h = h.0
 at_least low (y ∷ b) x a next h = omega (arith, h.0, at_least (y.id + 1) b x a next h.1)
 
@@ -87,18 +87,18 @@ below_next low (y ∷ b) x a next h = below_next (y.id + 1) b x a next h.1
 true_false : true ≡ false → ⊥
 true_false e = cc
 
-is_it : (id k : ℕ) → is_at (nat_cmp id) k ≡ true → id ≡ k
+pub is_it : (id k : ℕ) → is_at (nat_cmp id) k ≡ true → id ≡ k
 is_it id k h = dite (ℕ_discrete id k) (λ q. q) (λ ne. absurd (true_false (sym h ∙ unsigned_tied id k ∙ ne_eqb id k ne)))
 
 -- without the message that was found
-pub left_at : (nodes : List Node) (es : List (ℕ × ℕ)) (id next p : ℕ) → AreFrom 0 (msgs_at nodes es) next → ((b : List (ℕ × ℕ)) (e : ℕ × ℕ) (a : List (ℕ × ℕ)) → es ≡ b ++ e ∷ a → (node_at nodes e.1).id ≡ e.0)
+pub left_at : (nodes : ℕ → Node) (es : List (ℕ × ℕ)) (id next p : ℕ) → AreFrom 0 (msgs_at nodes es) next → ((b : List (ℕ × ℕ)) (e : ℕ × ℕ) (a : List (ℕ × ℕ)) → es ≡ b ++ e ∷ a → (nodes e.1).id ≡ e.0)
     → (f : Found (is_at (nat_cmp id)) es p) → msgs_at nodes (f.0 ++ f.2) ≡ without_id id (msgs_at nodes es)
 left_at nodes es id next p order ids f =
-    let msg = λ (x : ℕ × ℕ). msg_of (node_at nodes x.1) in
-    let all : msgs_at nodes es ≡ msgs_at nodes f.0 ++ msg_of (node_at nodes f.1.1) ∷ msgs_at nodes f.2 = ap (msgs_at nodes) f.3 ∙ map-append msg f.0 (f.1 ∷ f.2) in
-    let same : (node_at nodes f.1.1).id ≡ id = ids f.0 f.1 f.2 f.3 ∙ sym (is_it id f.1.0 f.5) in
+    let msg = λ (x : ℕ × ℕ). msg_of (nodes x.1) in
+    let all : msgs_at nodes es ≡ msgs_at nodes f.0 ++ msg_of (nodes f.1.1) ∷ msgs_at nodes f.2 = ap (msgs_at nodes) f.3 ∙ map-append msg f.0 (f.1 ∷ f.2) in
+    let same : (nodes f.1.1).id ≡ id = ids f.0 f.1 f.2 f.3 ∙ sym (is_it id f.1.0 f.5) in
     map-append msg f.0 f.2
-    ∙ sym (without_one 0 (msgs_at nodes f.0) (msg_of (node_at nodes f.1.1)) (msgs_at nodes f.2) next (subst (λ l. AreFrom 0 l next) all order))
+    ∙ sym (without_one 0 (msgs_at nodes f.0) (msg_of (nodes f.1.1)) (msgs_at nodes f.2) next (subst (λ l. AreFrom 0 l next) all order))
     ∙ (λ j. without_id (same j) (sym all j))
 
 -- where none has the number, all stay

@@ -29,9 +29,9 @@ node_set nodes i p n h = dite (ℕ_discrete p i)
     (λ q. ap (node_at (set nodes i n)) q ∙ get_or-set_same nodes i n (free_node none) h ∙ sym (ap (λ (t : Bool). cond t n (node_at nodes p)) (eq-eqb p i q)))
     (λ ne. get_or-set_other nodes i p n (free_node none) (λ z. ne z) ∙ sym (ap (λ (t : Bool). cond t n (node_at nodes p)) (eqb p i ne)))
 
-module _ (nodes nodes' : List Node) (heads heads' : BTreeMap ℕ Ends) (place next : ℕ) (from to : Member) (payload : ℕ) (es : List (ℕ × ℕ)) (w : IsWhole nodes heads place es next) (low : place < none) where
+module _ (nodes nodes' : ℕ → Node) (heads heads' : ℕ → Ends) (place next : ℕ) (from to : Member) (payload : ℕ) (es : List (ℕ × ℕ)) (w : IsWhole nodes heads place es next) (low : place < none) where
   abbrev last_at : Side → ℕ → ℕ
-  last_at side k = last_end side (ends_at heads k)
+  last_at side k = last_end side (heads k)
 
   -- the new node
   abbrev it : Node
@@ -57,12 +57,12 @@ module _ (nodes nodes' : List Node) (heads heads' : BTreeMap ℕ Ends) (place ne
   apart side p = omega (arith, w.places.2 p, counts side p es)
 
   -- the first free place, and those after it
-  free_is : (fs : List ℕ) × ((p : ℕ) → times p w.places.0 ≡ cond (place == p) 1 0 + times p fs) × IsFree nodes (node_at nodes place).to_after fs × (length w.places.0 ≡ length fs + 1)
+  free_is : (fs : List ℕ) × ((p : ℕ) → times p w.places.0 ≡ cond (place == p) 1 0 + times p fs) × IsFree nodes (nodes place).to_after fs × (length w.places.0 ≡ length fs + 1)
   free_is = by w.places.0 w.places.1
     where
-      by : (fs : List ℕ) → IsFree nodes place fs → (gs : List ℕ) × ((p : ℕ) → times p fs ≡ cond (place == p) 1 0 + times p gs) × IsFree nodes (node_at nodes place).to_after gs × (length fs ≡ length gs + 1)
+      by : (fs : List ℕ) → IsFree nodes place fs → (gs : List ℕ) × ((p : ℕ) → times p fs ≡ cond (place == p) 1 0 + times p gs) × IsFree nodes (nodes place).to_after gs × (length fs ≡ length gs + 1)
       by [] h = absurd (omega (arith, h, low))
-      by (f ∷ fs) h = (fs, (λ p. ap (λ (k : ℕ). cond {A = ℕ} (k == p) 1 0 + times p fs) (sym h.0)), subst (λ (k : ℕ). IsFree nodes (node_at nodes k).to_after fs) (sym h.0) h.1, omega arith)
+      by (f ∷ fs) h = (fs, (λ p. ap (λ (k : ℕ). cond {A = ℕ} (k == p) 1 0 + times p fs) (sym h.0)), subst (λ (k : ℕ). IsFree nodes (nodes k).to_after fs) (sym h.0) h.1, omega arith)
 
   unheld : (side : Side) → count place (cells side nodes es) ≡ 0
   unheld side = omega (arith, w.places.2 place, free_is.1 place, counts side place es, one_most (nat_lt place none), ap (λ (t : Bool). cond {A = ℕ} t 1 0) (eq-eqb place place refl))
@@ -83,11 +83,11 @@ module _ (nodes nodes' : List Node) (heads heads' : BTreeMap ℕ Ends) (place ne
 
   far_at : (b : List (ℕ × ℕ)) (x : ℕ × ℕ) (a : List (ℕ × ℕ)) → es ≡ b ++ x ∷ a → (x.1 < none) × (x.1 ≢ place)
   far_at b x a is =
-      let at : cells To nodes es ≡ cells To nodes b ++ (x.1, key_of To (node_at nodes x.1)) ∷ cells To nodes a = ap (cells To nodes) is ∙ map-append (λ y. (y.1, key_of To (node_at nodes y.1))) b (x ∷ a) in
-      let far = apart_at (cells To nodes es) (cells To nodes b) (x.1, key_of To (node_at nodes x.1)) (cells To nodes a) (apart To) at in
-      (far.0, λ q. absurd (omega (arith, unheld To, ap (count place) at, count-append place (cells To nodes b) ((x.1, key_of To (node_at nodes x.1)) ∷ cells To nodes a), ap (λ (t : Bool). cond {A = ℕ} t 1 0) (eq-eqb x.1 place q))))
+      let at : cells To nodes es ≡ cells To nodes b ++ (x.1, key_of To (nodes x.1)) ∷ cells To nodes a = ap (cells To nodes) is ∙ map-append (λ y. (y.1, key_of To (nodes y.1))) b (x ∷ a) in
+      let far = apart_at (cells To nodes es) (cells To nodes b) (x.1, key_of To (nodes x.1)) (cells To nodes a) (apart To) at in
+      (far.0, λ q. absurd (omega (arith, unheld To, ap (count place) at, count-append place (cells To nodes b) ((x.1, key_of To (nodes x.1)) ∷ cells To nodes a), ap (λ (t : Bool). cond {A = ℕ} t 1 0) (eq-eqb x.1 place q))))
 
-  module _ (long' : length nodes' ≡ length nodes) (nodes_are : (p : ℕ) → p < none → node_at nodes' p ≡ step p (node_at nodes p)) (heads_are : (q : ℕ) → ends_at heads' q ≡ ends_step q (ends_at heads q)) where
+  module _ (nodes_are : (p : ℕ) → p < none → nodes' p ≡ step p (nodes p)) (heads_are : (q : ℕ) → heads' q ≡ ends_step q (heads q)) where
     base : (p : ℕ) (x : Node) → p ≢ place → cond (p == place) it x ≡ x
     base p x ne = ap (λ (t : Bool). cond t it x) (eqb p place ne)
 
@@ -116,24 +116,24 @@ module _ (nodes nodes' : List Node) (heads heads' : BTreeMap ℕ Ends) (place ne
     last_is To q x = last_moved_other From (last_at From (number_of from)) (number_of from) place q (end_moved To (last_at To (number_of to)) (number_of to) place q x) ∙ last_moved To (last_at To (number_of to)) (number_of to) place q x
     last_is From q x = last_moved From (last_at From (number_of from)) (number_of from) place q (end_moved To (last_at To (number_of to)) (number_of to) place q x) ∙ ap (λ (k : ℕ). cond (q == number_of from) place k) (last_moved_other To (last_at To (number_of to)) (number_of to) place q x)
 
-    msg_new : msg_of (node_at nodes' place) ≡ msg_of it
-    msg_new = ap msg_of (nodes_are place low) ∙ msg_is place (node_at nodes place) ∙ ap msg_of (base_it (node_at nodes place))
+    msg_new : msg_of (nodes' place) ≡ msg_of it
+    msg_new = ap msg_of (nodes_are place low) ∙ msg_is place (nodes place) ∙ ap msg_of (base_it (nodes place))
 
-    key_new : (side : Side) → key_of side (node_at nodes' place) ≡ key side
-    key_new side = ap (key_of side) (nodes_are place low) ∙ key_is side place (node_at nodes place) ∙ ap (key_of side) (base_it (node_at nodes place))
+    key_new : (side : Side) → key_of side (nodes' place) ≡ key side
+    key_new side = ap (key_of side) (nodes_are place low) ∙ key_is side place (nodes place) ∙ ap (key_of side) (base_it (nodes place))
 
-    msg_same : (p : ℕ) → p < none → p ≢ place → msg_of (node_at nodes' p) ≡ msg_of (node_at nodes p)
-    msg_same p h ne = ap msg_of (nodes_are p h) ∙ msg_is p (node_at nodes p) ∙ ap msg_of (base p (node_at nodes p) ne)
+    msg_same : (p : ℕ) → p < none → p ≢ place → msg_of (nodes' p) ≡ msg_of (nodes p)
+    msg_same p h ne = ap msg_of (nodes_are p h) ∙ msg_is p (nodes p) ∙ ap msg_of (base p (nodes p) ne)
 
-    key_same : (side : Side) (p : ℕ) → p < none → p ≢ place → key_of side (node_at nodes' p) ≡ key_of side (node_at nodes p)
-    key_same side p h ne = ap (key_of side) (nodes_are p h) ∙ key_is side p (node_at nodes p) ∙ ap (key_of side) (base p (node_at nodes p) ne)
+    key_same : (side : Side) (p : ℕ) → p < none → p ≢ place → key_of side (nodes' p) ≡ key_of side (nodes p)
+    key_same side p h ne = ap (key_of side) (nodes_are p h) ∙ key_is side p (nodes p) ∙ ap (key_of side) (base p (nodes p) ne)
 
     -- the messages, with the new one
     pub msgs_put : msgs_at nodes' es' ≡ msgs_at nodes es ++ msg_of it ∷ []
-    msgs_put = map-append (λ x. msg_of (node_at nodes' x.1)) es ((next, place) ∷ []) ∙ (λ j. map_same (λ x. msg_of (node_at nodes' x.1)) (λ x. msg_of (node_at nodes x.1)) es (λ b x a is. let far = far_at b x a is in msg_same x.1 far.0 far.1) j ++ msg_new j ∷ [])
+    msgs_put = map-append (λ x. msg_of (nodes' x.1)) es ((next, place) ∷ []) ∙ (λ j. map_same (λ x. msg_of (nodes' x.1)) (λ x. msg_of (nodes x.1)) es (λ b x a is. let far = far_at b x a is in msg_same x.1 far.0 far.1) j ++ msg_new j ∷ [])
 
     cells_put : (side : Side) → cells side nodes' es' ≡ cells side nodes es ++ (place, key side) ∷ []
-    cells_put side = map-append (λ x. (x.1, key_of side (node_at nodes' x.1))) es ((next, place) ∷ []) ∙ (λ j. map_same (λ x. (x.1, key_of side (node_at nodes' x.1))) (λ x. (x.1, key_of side (node_at nodes x.1))) es (λ b x a is. let far = far_at b x a is in (λ i. (x.1, key_same side x.1 far.0 far.1 i))) j ++ (place, key_new side j) ∷ [])
+    cells_put side = map-append (λ x. (x.1, key_of side (nodes' x.1))) es ((next, place) ∷ []) ∙ (λ j. map_same (λ x. (x.1, key_of side (nodes' x.1))) (λ x. (x.1, key_of side (nodes x.1))) es (λ b x a is. let far = far_at b x a is in (λ i. (x.1, key_same side x.1 far.0 far.1 i))) j ++ (place, key_new side j) ∷ [])
 
     before_it : (side : Side) → before_of side it ≡ last_of (key side) (cells side nodes es)
     before_it To = w.lasts To (number_of to)
@@ -150,60 +150,60 @@ module _ (nodes nodes' : List Node) (heads heads' : BTreeMap ℕ Ends) (place ne
         (λ ne. absurd (omega (arith, h, count-append p (cells side nodes es) ((place, key side) ∷ []), apart side p, ap (λ (t : Bool). cond {A = ℕ} t 1 0) (le-ltb p none le), ap (λ (t : Bool). cond {A = ℕ} t 1 0) (eqb place p ne)))))
         (λ gt. omega arith)
 
-    linked_new : (side : Side) → IsLinked (λ p. before_of side (node_at nodes' p)) (λ p. after_of side (node_at nodes' p)) (cells side nodes' es')
+    linked_new : (side : Side) → IsLinked (λ p. before_of side (nodes' p)) (λ p. after_of side (nodes' p)) (cells side nodes' es')
     linked_new side =
-        let done = put_linked (λ p. before_of side (node_at nodes p)) (λ p. after_of side (node_at nodes p)) (cells side nodes es) (place, key side) (w.linked side) (apart side) low (unheld side) in
-        subst (IsLinked (λ p. before_of side (node_at nodes' p)) (λ p. after_of side (node_at nodes' p))) (sym (cells_put side))
-        (linked_same (λ p. cond (p == place) (last_of (key side) (cells side nodes es)) (before_of side (node_at nodes p))) (λ p. cond (p == place) none (cond (p == last_of (key side) (cells side nodes es)) place (after_of side (node_at nodes p)))) (λ p. before_of side (node_at nodes' p)) (λ p. after_of side (node_at nodes' p)) (cells side nodes es ++ (place, key side) ∷ []) (λ p h. let h' = counted_low side p h in (before_new p h', after_new p h')) done)
+        let done = put_linked (λ p. before_of side (nodes p)) (λ p. after_of side (nodes p)) (cells side nodes es) (place, key side) (w.linked side) (apart side) low (unheld side) in
+        subst (IsLinked (λ p. before_of side (nodes' p)) (λ p. after_of side (nodes' p))) (sym (cells_put side))
+        (linked_same (λ p. cond (p == place) (last_of (key side) (cells side nodes es)) (before_of side (nodes p))) (λ p. cond (p == place) none (cond (p == last_of (key side) (cells side nodes es)) place (after_of side (nodes p)))) (λ p. before_of side (nodes' p)) (λ p. after_of side (nodes' p)) (cells side nodes es ++ (place, key side) ∷ []) (λ p h. let h' = counted_low side p h in (before_new p h', after_new p h')) done)
       where
-        before_new : (p : ℕ) → p < none → before_of side (node_at nodes' p) ≡ cond (p == place) (last_of (key side) (cells side nodes es)) (before_of side (node_at nodes p))
-        before_new p h = ap (before_of side) (nodes_are p h) ∙ before_is side p (node_at nodes p) ∙ by (p == place)
+        before_new : (p : ℕ) → p < none → before_of side (nodes' p) ≡ cond (p == place) (last_of (key side) (cells side nodes es)) (before_of side (nodes p))
+        before_new p h = ap (before_of side) (nodes_are p h) ∙ before_is side p (nodes p) ∙ by (p == place)
           where
-            by : (t : Bool) → before_of side (cond t it (node_at nodes p)) ≡ cond t (last_of (key side) (cells side nodes es)) (before_of side (node_at nodes p))
+            by : (t : Bool) → before_of side (cond t it (nodes p)) ≡ cond t (last_of (key side) (cells side nodes es)) (before_of side (nodes p))
             by true = before_it side
             by false = refl
 
-        after_new : (p : ℕ) → p < none → after_of side (node_at nodes' p) ≡ cond (p == place) none (cond (p == last_of (key side) (cells side nodes es)) place (after_of side (node_at nodes p)))
-        after_new p h = ap (after_of side) (nodes_are p h) ∙ after_is side p (node_at nodes p) ∙ dite (ℕ_discrete p place)
+        after_new : (p : ℕ) → p < none → after_of side (nodes' p) ≡ cond (p == place) none (cond (p == last_of (key side) (cells side nodes es)) place (after_of side (nodes p)))
+        after_new p h = ap (after_of side) (nodes_are p h) ∙ after_is side p (nodes p) ∙ dite (ℕ_discrete p place)
             (λ same.
-            ap (λ (t : Bool). cond t place (after_of side (cond (p == place) it (node_at nodes p)))) (eqb p (last_at side (key side)) (λ z. last_else side (key side) (sym z ∙ same)))
-            ∙ ap (λ (t : Bool). after_of side (cond t it (node_at nodes p))) (eq-eqb p place same) ∙ after_it side
-            ∙ sym (ap (λ (t : Bool). cond t none (cond (p == last_of (key side) (cells side nodes es)) place (after_of side (node_at nodes p)))) (eq-eqb p place same)))
+            ap (λ (t : Bool). cond t place (after_of side (cond (p == place) it (nodes p)))) (eqb p (last_at side (key side)) (λ z. last_else side (key side) (sym z ∙ same)))
+            ∙ ap (λ (t : Bool). after_of side (cond t it (nodes p))) (eq-eqb p place same) ∙ after_it side
+            ∙ sym (ap (λ (t : Bool). cond t none (cond (p == last_of (key side) (cells side nodes es)) place (after_of side (nodes p)))) (eq-eqb p place same)))
             (λ ne.
-            (λ j. cond (p == w.lasts side (key side) j) place (after_of side (base p (node_at nodes p) ne j)))
-            ∙ sym (ap (λ (t : Bool). cond t none (cond (p == last_of (key side) (cells side nodes es)) place (after_of side (node_at nodes p)))) (eqb p place ne)))
+            (λ j. cond (p == w.lasts side (key side) j) place (after_of side (base p (nodes p) ne j)))
+            ∙ sym (ap (λ (t : Bool). cond t none (cond (p == last_of (key side) (cells side nodes es)) place (after_of side (nodes p)))) (eqb p place ne)))
 
     flip_eq : (k j : ℕ) → (k == j) ≡ (j == k)
     flip_eq k j = dite (ℕ_discrete k j) (λ q. eq-eqb k j q ∙ sym (eq-eqb j k (sym q))) (λ ne. eqb k j ne ∙ sym (eqb j k (λ z. ne (sym z))))
 
-    firsts_new : (side : Side) (k : ℕ) → first_end side (ends_at heads' k) ≡ first_of k (cells side nodes' es')
+    firsts_new : (side : Side) (k : ℕ) → first_end side (heads' k) ≡ first_of k (cells side nodes' es')
     firsts_new side k =
-        ap (first_end side) (heads_are k) ∙ first_is side k (ends_at heads k)
+        ap (first_end side) (heads_are k) ∙ first_is side k (heads k)
         ∙ (λ j. cond ((w.lasts side (key side) j == none) && (k == key side)) place (w.firsts side k j))
         ∙ sym (first_put (cells side nodes es) (place, key side) (apart side) k) ∙ ap (first_of k) (sym (cells_put side))
 
-    lasts_new : (side : Side) (k : ℕ) → last_end side (ends_at heads' k) ≡ last_of k (cells side nodes' es')
+    lasts_new : (side : Side) (k : ℕ) → last_end side (heads' k) ≡ last_of k (cells side nodes' es')
     lasts_new side k =
-        ap (last_end side) (heads_are k) ∙ last_is side k (ends_at heads k)
+        ap (last_end side) (heads_are k) ∙ last_is side k (heads k)
         ∙ (λ j. cond (flip_eq k (key side) j) place (w.lasts side k j))
         ∙ sym (last_put (cells side nodes es) (place, key side) (apart side) k) ∙ ap (last_of k) (sym (cells_put side))
 
-    ids_new : (b : List (ℕ × ℕ)) (x : ℕ × ℕ) (a : List (ℕ × ℕ)) → es' ≡ b ++ x ∷ a → (node_at nodes' x.1).id ≡ x.0
+    ids_new : (b : List (ℕ × ℕ)) (x : ℕ × ℕ) (a : List (ℕ × ℕ)) → es' ≡ b ++ x ∷ a → (nodes' x.1).id ≡ x.0
     ids_new b x a is = ⊎_elim
         (λ t. let far = far_at b x t.0 t.1 in ap (λ (m : Msg). m.id) (msg_same x.1 far.0 far.1) ∙ w.ids b x t.0 t.1)
         (λ t. sole t.0 x a t.1)
         (split es ((next, place) ∷ []) b x a is)
       where
-        sole : (c : List (ℕ × ℕ)) (y : ℕ × ℕ) (d : List (ℕ × ℕ)) → (next, place) ∷ [] ≡ c ++ y ∷ d → (node_at nodes' y.1).id ≡ y.0
+        sole : (c : List (ℕ × ℕ)) (y : ℕ × ℕ) (d : List (ℕ × ℕ)) → (next, place) ∷ [] ≡ c ++ y ∷ d → (nodes' y.1).id ≡ y.0
         sole [] y d q =
             let is : (next, place) ≡ y = ap head_of q in
-            subst (λ (z : ℕ × ℕ). (node_at nodes' z.1).id ≡ z.0) is (ap (λ (m : Msg). m.id) msg_new)
+            subst (λ (z : ℕ × ℕ). (nodes' z.1).id ≡ z.0) is (ap (λ (m : Msg). m.id) msg_new)
         sole (z ∷ c) y d q = absurd (omega (arith, ap length q, length-append c (y ∷ d)))
 
-    free_new : IsFree nodes' (node_at nodes place).to_after free_is.0
-    free_new = free_same nodes nodes' (node_at nodes place).to_after free_is.0 (λ f h. same f h) free_is.2
+    free_new : IsFree nodes' (nodes place).to_after free_is.0
+    free_new = free_same nodes nodes' (nodes place).to_after free_is.0 (λ f h. same f h) free_is.2
       where
-        same : (f : ℕ) → 0 < times f free_is.0 → (node_at nodes' f).to_after ≡ (node_at nodes f).to_after
+        same : (f : ℕ) → 0 < times f free_is.0 → (nodes' f).to_after ≡ (nodes f).to_after
         same f h =
             let most = w.places.2 f in
             let low_f : f < none = dite (dec_le none f) (λ le. absurd (omega (arith, h, most, free_is.1 f, ap (λ (t : Bool). cond {A = ℕ} t 1 0) (le-ltb f none le)))) (λ gt. omega arith) in
@@ -212,12 +212,11 @@ module _ (nodes nodes' : List Node) (heads heads' : BTreeMap ℕ Ends) (place ne
             (λ z. absurd (omega (arith, low_f, q, w.lasts To (number_of to), z)))
             (λ z. absurd (omega (arith, h, most, free_is.1 f, one_most (nat_lt f none), ap (λ (k : ℕ). count k (cells To nodes es)) (q ∙ w.lasts To (number_of to)), z)))
             (last_is_place (number_of to) (cells To nodes es)) in
-            ap (after_of To) (nodes_are f low_f) ∙ after_is To f (node_at nodes f) ∙ ap (λ (t : Bool). cond t place (after_of To (cond (f == place) it (node_at nodes f)))) (eqb f (last_at To (number_of to)) not_last) ∙ ap (after_of To) (base f (node_at nodes f) not_it)
+            ap (after_of To) (nodes_are f low_f) ∙ after_is To f (nodes f) ∙ ap (λ (t : Bool). cond t place (after_of To (cond (f == place) it (nodes f)))) (eqb f (last_at To (number_of to)) not_last) ∙ ap (after_of To) (base f (nodes f) not_it)
 
     -- the flight with the message
-    pub whole_put : IsWhole nodes' heads' (node_at nodes place).to_after es' (next + 1)
+    pub whole_put : IsWhole nodes' heads' (nodes place).to_after es' (next + 1)
     whole_put = record {
-      long = long' ∙ w.long;
       ids = ids_new;
       order = subst (λ l. AreFrom 0 l (next + 1)) (sym msgs_put) (put_last 0 (msgs_at nodes es) next (msg_of it) w.order refl);
       linked = linked_new;

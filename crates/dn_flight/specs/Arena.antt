@@ -24,6 +24,10 @@ no_ends = record { to_first = none; to_last = none; from_first = none; from_last
 abbrev pub ends_at : BTreeMap ℕ Ends → ℕ → Ends
 ends_at held k = unwrap_or (get nat_cmp held k) no_ends
 
+-- the same ends of the list to the member, and none of the list from it
+abbrev pub without_from : Ends → Ends
+without_from e = record e { from_first = none; from_last = none }
+
 abbrev pub IsKnown : BTreeMap ℕ Ends → ℕ → Type 0
 IsKnown held k = IsSome (get nat_cmp held k)
 

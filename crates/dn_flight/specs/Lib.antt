@@ -2,5 +2,4 @@ pub mod Arena
 pub mod Chains
 pub mod Flight
 pub mod Side
-pub mod Wanted
 pub mod Whole

@@ -1,6 +1,6 @@
 ghost use Rattle.std.specs.Prelude.{◌≡◌, ◌==◌, ◌<◌, ◌≤◌, ◌+◌, ℕ, List, [], ◌∷◌, ◌++◌, cond, length, IfOk, OnOk};
 ghost use Rattle.dn_flight.specs.Arena.{none, node_at, ends_at, free_node, msg_of, number_of, IsKnown};
-ghost use Rattle.dn_flight.specs.Whole.{IsWhole, msgs_at};
+ghost use Rattle.dn_flight.specs.Whole.{IsKept, msgs_in, id_at, unlinked, unended};
 ghost use Rattle.dn_flight.specs.Side.{key_of, before_of, after_of};
 ghost use Rattle.dn_flight.specs.declared.side.Side.TheVariants.{To, From};
 
@@ -53,7 +53,7 @@ fn free_all<L: Ledger>(nodes: &mut Nodes, blank: Blank)
 impl Arena {
     /// An arena without messages.
     pub(crate) fn make(alloc: Global) -> Result<Arena, NoMemory>
-        ensures { IfOk result (λ a. IsWhole a.links.nodes a.links.heads.held a.free [] 0) }
+        ensures { IfOk result (λ a. IsKept a [] 0) }
     {
         let mut nodes = Nodes::make(alloc, NONE)?;
         free_all::<Brand>(&mut nodes, Blank::new(1));
@@ -82,10 +82,10 @@ impl Arena {
 
     /// Takes the message at the place out of its lists, and makes the place free.
     pub(crate) fn remove<L: Ledger>(&mut self, place: u32, steps: &mut Steps<L>) -> Node
-        requires whole { (b : List (ℕ × ℕ)) × (e : ℕ × ℕ) × (a : List (ℕ × ℕ)) × (next : ℕ) × (e.1 ≡ place) × IsWhole self.old.links.nodes self.old.links.heads.held self.old.free (b ++ e ∷ a) next }
+        requires whole { (b : List (ℕ × ℕ)) × (e : ℕ × ℕ) × (a : List (ℕ × ℕ)) × (next : ℕ) × (e.1 ≡ place) × IsKept self.old (b ++ e ∷ a) next }
         ensures node { result ≡ node_at self.old.links.nodes place }
-        ensures whole { (b : List (ℕ × ℕ)) (e : ℕ × ℕ) (a : List (ℕ × ℕ)) (next : ℕ) → e.1 ≡ place → IsWhole self.old.links.nodes self.old.links.heads.held self.old.free (b ++ e ∷ a) next
-            → IsWhole self.new.links.nodes self.new.links.heads.held self.new.free (b ++ a) next × (msgs_at self.new.links.nodes (b ++ a) ≡ msgs_at self.old.links.nodes (b ++ a)) }
+        ensures whole { (b : List (ℕ × ℕ)) (e : ℕ × ℕ) (a : List (ℕ × ℕ)) (next : ℕ) → e.1 ≡ place → IsKept self.old (b ++ e ∷ a) next
+            → IsKept self.new (b ++ a) next × (msgs_in self.new (b ++ a) ≡ msgs_in self.old (b ++ a)) }
     {
         let node = self.links.nodes.get(place, steps);
         let to = number_of(node.to);
@@ -94,6 +94,26 @@ impl Arena {
             .unlink(Side::To, to, node.to_before, node.to_after, steps);
         self.links
             .unlink(Side::From, from, node.from_before, node.from_after, steps);
+        self.release(place, steps);
+        node
+    }
+
+    /// Takes the message at the place out of its receiver's list, and makes the place free: at most six steps. Its sender's list stays
+    /// as it is.
+    pub(crate) fn detach<L: Ledger>(&mut self, place: u32, steps: &mut Steps<L>) -> Node
+        requires place { (place < none) × (length self.old.links.nodes ≡ none) × (self.old.free ≤ none) }
+        requires near { let node = node_at self.old.links.nodes place in (node.to_before ≤ none) × (node.to_after ≤ none) × IsKnown self.old.links.heads.held (number_of node.to) }
+        ensures node { result ≡ node_at self.old.links.nodes place }
+        ensures long { length self.new.links.nodes ≡ length self.old.links.nodes }
+        ensures nodes { (p : ℕ) → p < none → node_at self.new.links.nodes p ≡ cond (p == place) (free_node self.old.free) (unlinked To result.to_before result.to_after p (node_at self.old.links.nodes p)) }
+        ensures ends { (q : ℕ) → ends_at self.new.links.heads.held q ≡ unended To result.to_before result.to_after (number_of result.to) q (ends_at self.old.links.heads.held q) }
+        ensures free { self.new.free ≡ place }
+        ensures cost { (steps.old ≤ steps.new) × (steps.new ≤ steps.old + 6) }
+    {
+        let node = self.links.nodes.get(place, steps);
+        let key = number_of(node.to);
+        self.links
+            .unlink(Side::To, key, node.to_before, node.to_after, steps);
         self.release(place, steps);
         node
     }
@@ -107,13 +127,13 @@ impl Arena {
         payload: u64,
         steps: &mut Steps<L>,
     ) -> u32
-        requires whole { (es : List (ℕ × ℕ)) × IsWhole self.old.links.nodes self.old.links.heads.held self.old.free es id }
+        requires whole { (es : List (ℕ × ℕ)) × IsKept self.old es id }
         requires room { self.old.free < none }
         requires known { IsKnown self.old.links.heads.held (number_of to) × IsKnown self.old.links.heads.held (number_of from) }
         ensures place { result ≡ self.old.free }
-        ensures whole { (es : List (ℕ × ℕ)) → IsWhole self.old.links.nodes self.old.links.heads.held self.old.free es id
-            → IsWhole self.new.links.nodes self.new.links.heads.held self.new.free (es ++ (id, self.old.free) ∷ []) (id + 1)
-            × (msgs_at self.new.links.nodes (es ++ (id, self.old.free) ∷ []) ≡ msgs_at self.old.links.nodes es ++ record { id = id; from = from; to = to; payload = payload } ∷ []) }
+        ensures whole { (es : List (ℕ × ℕ)) → IsKept self.old es id
+            → IsKept self.new (es ++ (id, self.old.free) ∷ []) (id + 1)
+            × (msgs_in self.new (es ++ (id, self.old.free) ∷ []) ≡ msgs_in self.old es ++ record { id = id; from = from; to = to; payload = payload } ∷ []) }
     {
         let place = self.free;
         let head = self.links.nodes.get(place, steps);
@@ -156,13 +176,39 @@ impl Arena {
         }
     }
 
+    /// The number of the message at the place, or nothing where the place is none.
+    pub(crate) fn id_at<L: Ledger>(&self, place: u32, blank: Blank) -> Option<u64>
+        requires blank { (blank.name ≡ L.name) × (blank.parts ≡ L.parts) × (0 < L.parts) }
+        requires place { (place ≤ none) × (length self.now.links.nodes ≡ none) }
+        ensures { result ≡ id_at (node_at self.now.links.nodes) place }
+    {
+        if place == NONE {
+            return None;
+        }
+        Some(self.msg::<L>(place, blank).id)
+    }
+
+    /// The number of the message after the one at the place in its receiver's list.
+    pub(crate) fn next_id<L: Ledger>(&self, place: u32, blank: Blank) -> Option<u64>
+        requires blank { (blank.name ≡ L.name) × (blank.parts ≡ L.parts) × (0 < L.parts) }
+        requires place { (place < none) × ((node_at self.now.links.nodes place).to_after ≤ none) × (length self.now.links.nodes ≡ none) }
+        ensures { result ≡ id_at (node_at self.now.links.nodes) (node_at self.now.links.nodes place).to_after }
+    {
+        let mut steps: Steps<L> = Steps::none(blank);
+        let after = self.links.nodes.get(place, &mut steps).to_after;
+        if after == NONE {
+            return None;
+        }
+        Some(self.links.nodes.get(after, &mut steps).id)
+    }
+
     /// Takes the message at the place out.
     pub(crate) fn take<L: Ledger>(&mut self, place: u32, blank: Blank) -> Msg
         requires blank { (blank.name ≡ L.name) × (blank.parts ≡ L.parts) × (0 < L.parts) }
-        requires whole { (b : List (ℕ × ℕ)) × (e : ℕ × ℕ) × (a : List (ℕ × ℕ)) × (next : ℕ) × (e.1 ≡ place) × IsWhole self.old.links.nodes self.old.links.heads.held self.old.free (b ++ e ∷ a) next }
+        requires whole { (b : List (ℕ × ℕ)) × (e : ℕ × ℕ) × (a : List (ℕ × ℕ)) × (next : ℕ) × (e.1 ≡ place) × IsKept self.old (b ++ e ∷ a) next }
         ensures msg { result ≡ msg_of (node_at self.old.links.nodes place) }
-        ensures whole { (b : List (ℕ × ℕ)) (e : ℕ × ℕ) (a : List (ℕ × ℕ)) (next : ℕ) → e.1 ≡ place → IsWhole self.old.links.nodes self.old.links.heads.held self.old.free (b ++ e ∷ a) next
-            → IsWhole self.new.links.nodes self.new.links.heads.held self.new.free (b ++ a) next × (msgs_at self.new.links.nodes (b ++ a) ≡ msgs_at self.old.links.nodes (b ++ a)) }
+        ensures whole { (b : List (ℕ × ℕ)) (e : ℕ × ℕ) (a : List (ℕ × ℕ)) (next : ℕ) → e.1 ≡ place → IsKept self.old (b ++ e ∷ a) next
+            → IsKept self.new (b ++ a) next × (msgs_in self.new (b ++ a) ≡ msgs_in self.old (b ++ a)) }
     {
         let mut steps: Steps<L> = Steps::none(blank);
         let node = self.remove(place, &mut steps);
@@ -194,12 +240,12 @@ impl Arena {
         blank: Blank,
     )
         requires blank { (blank.name ≡ L.name) × (blank.parts ≡ L.parts) × (0 < L.parts) }
-        requires whole { (es : List (ℕ × ℕ)) × IsWhole self.old.links.nodes self.old.links.heads.held self.old.free es id }
+        requires whole { (es : List (ℕ × ℕ)) × IsKept self.old es id }
         requires room { self.old.free < none }
         requires known { IsKnown self.old.links.heads.held (number_of to) × IsKnown self.old.links.heads.held (number_of from) }
-        ensures whole { (es : List (ℕ × ℕ)) → IsWhole self.old.links.nodes self.old.links.heads.held self.old.free es id
-            → IsWhole self.new.links.nodes self.new.links.heads.held self.new.free (es ++ (id, self.old.free) ∷ []) (id + 1)
-            × (msgs_at self.new.links.nodes (es ++ (id, self.old.free) ∷ []) ≡ msgs_at self.old.links.nodes es ++ record { id = id; from = from; to = to; payload = payload } ∷ []) }
+        ensures whole { (es : List (ℕ × ℕ)) → IsKept self.old es id
+            → IsKept self.new (es ++ (id, self.old.free) ∷ []) (id + 1)
+            × (msgs_in self.new (es ++ (id, self.old.free) ∷ []) ≡ msgs_in self.old es ++ record { id = id; from = from; to = to; payload = payload } ∷ []) }
     {
         let mut steps: Steps<L> = Steps::none(blank);
         self.insert(id, from, to, payload, &mut steps);

@@ -1,5 +1,5 @@
 ghost use Rattle.std.specs.Prelude.{◌≡◌, ◌==◌, ℕ, cond, OnOk};
-ghost use Rattle.dn_flight.specs.Arena.{number_of, ends_at, no_ends, IsKnown};
+ghost use Rattle.dn_flight.specs.Arena.{number_of, ends_at, no_ends, without_from, IsKnown};
 
 use dn_memory::NoMemory;
 use dn_nodes::NONE;
@@ -83,5 +83,19 @@ impl Heads {
         let Ok(_) = self.held.insert(k, ends) else {
             unreachable!()
         };
+    }
+
+    /// Leaves the member's list of messages from it without ends.
+    pub(crate) fn end_from(&mut self, k: u64)
+        ensures { (q : ℕ) → ends_at self.new.held q ≡ cond (q == k) (without_from (ends_at self.old.held q)) (ends_at self.old.held q) }
+    {
+        if self.held.contains_key(&k) {
+            let ends = Ends {
+                from_first: NONE,
+                from_last: NONE,
+                ..self.get(k)
+            };
+            self.set(k, ends);
+        }
     }
 }

@@ -6,13 +6,11 @@
 mod arena;
 mod flight;
 mod heads;
-mod kept;
 mod links;
 mod msg;
 mod side;
 #[cfg(test)]
 mod tests;
-mod wanted;
 
 pub use flight::{Flight, PutFault};
 pub use msg::Msg;

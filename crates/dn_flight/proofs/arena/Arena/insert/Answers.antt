@@ -15,7 +15,7 @@ append-requires g c =
     let node : Node = record { id = c.args.id; from = c.args.from; to = c.args.to; payload = c.args.payload; to_before = c.get-to_ends.result.to_last; to_after = none; from_before = c.get-from_ends.result.from_last; from_after = none } in
     record {
       place = (
-        subst (λ e. e.to_last ≤ none) (sym (c.get-to_ends.ensures ∙ ap (ends_at heads) c.number_of-to_key.ensures)) (last_low nodes nodes heads heads c.args.self.now.free c.args.id c.args.from c.args.to c.args.payload r.0 r.1 c.requires.room To (number_of c.args.to)),
+        subst (λ e. e.to_last ≤ none) (sym (c.get-to_ends.ensures ∙ ap (ends_at heads) c.number_of-to_key.ensures)) (last_low (node_at nodes) (node_at nodes) (ends_at heads) (ends_at heads) c.args.self.now.free c.args.id c.args.from c.args.to c.args.payload r.0 r.1.whole c.requires.room To (number_of c.args.to)),
         omega (arith, r.1.long, ap length c.set.ensures.nodes, length-set nodes c.args.self.now.free node),
         subst (IsKnown heads) (sym c.number_of-to_key.ensures) c.requires.known.0,
       );
@@ -29,7 +29,7 @@ append-requires-2 g c =
     let node : Node = record { id = c.args.id; from = c.args.from; to = c.args.to; payload = c.args.payload; to_before = c.get-to_ends.result.to_last; to_after = none; from_before = c.get-from_ends.result.from_last; from_after = none } in
     record {
       place = (
-        subst (λ e. e.from_last ≤ none) (sym (c.get-from_ends.ensures ∙ ap (ends_at heads) c.number_of-from_key.ensures)) (last_low nodes nodes heads heads c.args.self.now.free c.args.id c.args.from c.args.to c.args.payload r.0 r.1 c.requires.room From (number_of c.args.from)),
+        subst (λ e. e.from_last ≤ none) (sym (c.get-from_ends.ensures ∙ ap (ends_at heads) c.number_of-from_key.ensures)) (last_low (node_at nodes) (node_at nodes) (ends_at heads) (ends_at heads) c.args.self.now.free c.args.id c.args.from c.args.to c.args.payload r.0 r.1.whole c.requires.room From (number_of c.args.from)),
         omega (arith, r.1.long, c.append.ensures.long, ap length c.set.ensures.nodes, length-set nodes c.args.self.now.free node),
         c.append.ensures.stay c.number_of-from_key.result (subst (IsKnown heads) (sym c.number_of-from_key.ensures) c.requires.known.1),
       );
@@ -54,7 +54,7 @@ returns-clause-whole g c = λ es w.
     let ends_each = (λ (q : ℕ).
     c.append-2.ensures.heads q ∙ ap (λ x. end_moved From c.get-from_ends.result.from_last c.number_of-from_key.result free q x) (c.append.ensures.heads q)
     ∙ (λ j. end_moved From (fe j).from_last (c.number_of-from_key.ensures j) free q (end_moved To (te j).to_last (c.number_of-to_key.ensures j) free q (ends_at heads q)))) in
-    let now = whole_put nodes nodes' heads heads' free c.args.id c.args.from c.args.to c.args.payload es w c.requires.room long at_each ends_each in (
-      subst (λ (k : ℕ). IsWhole nodes' heads' k (es ++ (c.args.id, free) ∷ []) (c.args.id + 1)) (ap (λ (x : Node). x.to_after) (get_or_from_slice_get nodes free c.get-head.result (free_node none) c.get-head.ensures.node)) now,
-      msgs_put nodes nodes' heads heads' free c.args.id c.args.from c.args.to c.args.payload es w c.requires.room long at_each ends_each,
+    let now = whole_put (node_at nodes) (node_at nodes') (ends_at heads) (ends_at heads') free c.args.id c.args.from c.args.to c.args.payload es w.whole c.requires.room at_each ends_each in (
+      record { long = long ∙ w.long; whole = subst (λ (k : ℕ). IsWhole (node_at nodes') (ends_at heads') k (es ++ (c.args.id, free) ∷ []) (c.args.id + 1)) (ap (λ (x : Node). x.to_after) (get_or_from_slice_get nodes free c.get-head.result (free_node none) c.get-head.ensures.node)) now },
+      msgs_put (node_at nodes) (node_at nodes') (ends_at heads) (ends_at heads') free c.args.id c.args.from c.args.to c.args.payload es w.whole c.requires.room at_each ends_each,
     )

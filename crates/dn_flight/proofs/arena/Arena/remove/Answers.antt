@@ -5,7 +5,7 @@ use Rattle.dn_flight.specs.Arena.{none, node_at, ends_at, free_node, IsKnown}
 use Rattle.dn_flight.specs.Side.{key_of, before_of, after_of}
 use Rattle.dn_flight.specs.Whole.{IsWhole, unlinked, unended}
 use Rattle.dn_flight.specs.declared.side.Side.TheVariants.{To, From}
-use Rattle.dn_flight.proofs.Removed.{place_low, before_low, after_low, is_known, free_low, msgs_same, whole_removed}
+use Rattle.dn_flight.proofs.Removed.{place_low, before_low, after_low, has_end, known, free_low, msgs_same, whole_removed}
 use Rattle.dn_flight.proofs.arena.Arena.remove.Goals as goal
 
 pub get-node-requires : goal.get-node-requires
@@ -13,7 +13,7 @@ get-node-requires g c =
     let r = c.requires.whole in
     let nodes = c.args.self.now.links.nodes in
     let heads = c.args.self.now.links.heads.held in
-    omega (arith, place_low nodes nodes heads heads c.args.self.now.free r.3 r.0 r.1 r.2 r.5, r.4, r.5.long)
+    omega (arith, place_low (node_at nodes) (node_at nodes) (ends_at heads) (ends_at heads) c.args.self.now.free r.3 r.0 r.1 r.2 r.5.whole, r.4, r.5.long)
 
 pub unlink-requires : goal.unlink-requires
 unlink-requires g c =
@@ -23,10 +23,10 @@ unlink-requires g c =
     let here : c.get-node.result ≡ node_at nodes r.1.1 = sym (get_or_from_slice_get nodes c.args.place c.get-node.result (free_node none) c.get-node.ensures.node) ∙ ap (node_at nodes) (sym r.4) in
     record {
       place = (
-        subst (λ (x : Node). x.to_before ≤ none) (sym here) (before_low nodes nodes heads heads c.args.self.now.free r.3 r.0 r.1 r.2 r.5 To),
-        subst (λ (x : Node). x.to_after ≤ none) (sym here) (after_low nodes nodes heads heads c.args.self.now.free r.3 r.0 r.1 r.2 r.5 To),
+        subst (λ (x : Node). x.to_before ≤ none) (sym here) (before_low (node_at nodes) (node_at nodes) (ends_at heads) (ends_at heads) c.args.self.now.free r.3 r.0 r.1 r.2 r.5.whole To),
+        subst (λ (x : Node). x.to_after ≤ none) (sym here) (after_low (node_at nodes) (node_at nodes) (ends_at heads) (ends_at heads) c.args.self.now.free r.3 r.0 r.1 r.2 r.5.whole To),
         omega (arith, r.5.long),
-        subst (IsKnown heads) (sym (c.number_of-to.ensures ∙ ap (key_of To) here)) (is_known nodes nodes heads heads c.args.self.now.free r.3 r.0 r.1 r.2 r.5 To),
+        subst (IsKnown heads) (sym (c.number_of-to.ensures ∙ ap (key_of To) here)) (known To heads (key_of To (node_at nodes r.1.1)) (has_end (node_at nodes) (node_at nodes) (ends_at heads) (ends_at heads) c.args.self.now.free r.3 r.0 r.1 r.2 r.5.whole To)),
       );
     }
 
@@ -38,10 +38,10 @@ unlink-requires-2 g c =
     let here : c.get-node.result ≡ node_at nodes r.1.1 = sym (get_or_from_slice_get nodes c.args.place c.get-node.result (free_node none) c.get-node.ensures.node) ∙ ap (node_at nodes) (sym r.4) in
     record {
       place = (
-        subst (λ (x : Node). x.from_before ≤ none) (sym here) (before_low nodes nodes heads heads c.args.self.now.free r.3 r.0 r.1 r.2 r.5 From),
-        subst (λ (x : Node). x.from_after ≤ none) (sym here) (after_low nodes nodes heads heads c.args.self.now.free r.3 r.0 r.1 r.2 r.5 From),
+        subst (λ (x : Node). x.from_before ≤ none) (sym here) (before_low (node_at nodes) (node_at nodes) (ends_at heads) (ends_at heads) c.args.self.now.free r.3 r.0 r.1 r.2 r.5.whole From),
+        subst (λ (x : Node). x.from_after ≤ none) (sym here) (after_low (node_at nodes) (node_at nodes) (ends_at heads) (ends_at heads) c.args.self.now.free r.3 r.0 r.1 r.2 r.5.whole From),
         omega (arith, r.5.long, c.unlink.ensures.long),
-        c.unlink.ensures.stay c.number_of-from.result (subst (IsKnown heads) (sym (c.number_of-from.ensures ∙ ap (key_of From) here)) (is_known nodes nodes heads heads c.args.self.now.free r.3 r.0 r.1 r.2 r.5 From)),
+        c.unlink.ensures.stay c.number_of-from.result (subst (IsKnown heads) (sym (c.number_of-from.ensures ∙ ap (key_of From) here)) (known From heads (key_of From (node_at nodes r.1.1)) (has_end (node_at nodes) (node_at nodes) (ends_at heads) (ends_at heads) c.args.self.now.free r.3 r.0 r.1 r.2 r.5.whole From))),
       );
     }
 
@@ -50,9 +50,9 @@ release-requires g c =
     let r = c.requires.whole in
     let nodes = c.args.self.now.links.nodes in
     let heads = c.args.self.now.links.heads.held in (
-      omega (arith, place_low nodes nodes heads heads c.args.self.now.free r.3 r.0 r.1 r.2 r.5, r.4),
+      omega (arith, place_low (node_at nodes) (node_at nodes) (ends_at heads) (ends_at heads) c.args.self.now.free r.3 r.0 r.1 r.2 r.5.whole, r.4),
       c.unlink-2.ensures.long ∙ c.unlink.ensures.long ∙ r.5.long,
-      free_low nodes nodes heads heads c.args.self.now.free r.3 r.0 r.1 r.2 r.5,
+      free_low (node_at nodes) (node_at nodes) (ends_at heads) (ends_at heads) c.args.self.now.free r.3 r.0 r.1 r.2 r.5.whole,
     )
 
 pub returns-clause-node : goal.returns-clause-node
@@ -77,5 +77,5 @@ returns-clause-whole g c = λ b e a next at w.
     ∙ c.unlink-2.ensures.heads q ∙ ap (λ x. unended From node.from_before node.from_after c.number_of-from.result q x) (c.unlink.ensures.heads q)
     ∙ (λ j. unended From node.from_before node.from_after (c.number_of-from.ensures j) q (unended To node.to_before node.to_after (c.number_of-to.ensures j) q (ends_at heads q)))
     ∙ (λ j. unended From (before_of From (here j)) (after_of From (here j)) (key_of From (here j)) q (unended To (before_of To (here j)) (after_of To (here j)) (key_of To (here j)) q (ends_at heads q)))) in
-    let now = whole_removed nodes nodes' heads heads' free next b e a w long at_each ends_each in
-    (subst (λ (k : ℕ). IsWhole nodes' heads' k (b ++ a) next) (at ∙ sym c.release.ensures.rest.1) now, msgs_same nodes nodes' heads heads' free next b e a w long at_each ends_each)
+    let now = whole_removed (node_at nodes) (node_at nodes') (ends_at heads) (ends_at heads') free next b e a w.whole at_each ends_each in
+    (record { long = long ∙ w.long; whole = subst (λ (k : ℕ). IsWhole (node_at nodes') (ends_at heads') k (b ++ a) next) (at ∙ sym c.release.ensures.rest.1) now }, msgs_same (node_at nodes) (node_at nodes') (ends_at heads) (ends_at heads') free next b e a w.whole at_each ends_each)

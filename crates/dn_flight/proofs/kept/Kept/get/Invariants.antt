@@ -1,4 +1,0 @@
-use Rattle.dn_flight.proofs.kept.Kept.get.Given as goal
-
-abbrev pub ghosts-msg : goal.ghosts-msg
-ghosts-msg a = record { name = a.blank.name; parts = a.blank.parts }
