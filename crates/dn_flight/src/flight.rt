@@ -1,4 +1,4 @@
-ghost use Rattle.std.specs.Prelude.{◌≡◌, ◌↔◌, ◌+◌, ◌*◌, ◌≤◌, ◌++◌, ◌∷◌, [], Err, IfOk, OnErr, length, filter, not, count_by};
+ghost use Rattle.std.specs.Prelude.{◌≡◌, ◌↔◌, ◌+◌, ◌*◌, ◌≤◌, ◌++◌, ◌∷◌, [], Err, IfOk, OnErr, IsTrue, length, filter, not, count_by};
 ghost use Rattle.dn_wire.specs.declared.limits.TheConstants.{MAX_FLIGHT};
 ghost use Rattle.dn_flight.specs.Flight.{IsFull, AreFrom, is_from, with_id, without_id, first_id, after_id, all_to, next_in};
 
@@ -54,13 +54,20 @@ impl Flight {
         })
     }
 
+    /// Whether no further message may be put: 65,536 are held, or the next number is 2^64 - 1.
+    pub fn is_full(&self) -> bool
+        ensures { IsTrue result ↔ IsFull self.now }
+    {
+        self.arena.free == NONE || self.next == u64::MAX
+    }
+
     /// Puts a message behind the others, and gives its number.
     pub fn put(&mut self, from: Member, to: Member, payload: u64) -> Result<u64, PutFault>
         ensures put { IfOk result (λ id. (id ≡ self.old.next) × (self.new.msgs ≡ self.old.msgs ++ record { id = id; from = from; to = to; payload = payload } ∷ []) × (self.new.next ≡ id + 1)) }
         ensures full { (result ≡ Err PutFault.Full) ↔ IsFull self.old }
         ensures refused { OnErr result (self.new ≡ self.old) }
     {
-        if self.arena.free == NONE || self.next == u64::MAX {
+        if self.is_full() {
             return Err(PutFault::Full);
         }
         let Ok(()) = self.arena.room(from, to) else {

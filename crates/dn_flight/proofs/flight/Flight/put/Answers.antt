@@ -1,4 +1,4 @@
-use Rattle.std.proofs.Common.{arith, ◌≡◌, ◌≢◌, ◌<◌, ◌≤◌, ◌+◌, ◌++◌, ◌∷◌, [], ℕ, refl, ap, sym, subst, ◌∙◌, length, inl, inr}
+use Rattle.std.proofs.Common.{arith, ◌≡◌, ◌≢◌, ◌<◌, ◌≤◌, ◌+◌, ◌++◌, ◌∷◌, [], ℕ, refl, ap, sym, subst, ◌∙◌, length, inl, true, false}
 use Rattle.std.proofs.lemmas.List.{length-map}
 use Rattle.dn_flight.specs.Arena.{none, node_at, ends_at, msg_of}
 use Rattle.dn_flight.specs.Whole.{IsKept, msgs_at, msgs_in}
@@ -6,20 +6,6 @@ use Rattle.dn_flight.specs.declared.msg.Msg.{Msg}
 use Rattle.dn_flight.proofs.Entries.{insert_last}
 use Rattle.dn_flight.proofs.Room.{full_where, kept_in, all_below}
 use Rattle.dn_flight.proofs.flight.Flight.put.Goals as goal
-use Rattle.dn_flight.proofs.flight.Flight.put.Goals.{then-self-eq-NONE-via-then-self-eq-NONE, then-self-eq-NONE-via-else-self-eq-NONE+then-self}
-
-pub returns-then-self-eq-NONE-clause-full : goal.returns-then-self-eq-NONE-clause-full
-returns-then-self-eq-NONE-clause-full c =
-    let a = c.self.inside.arena in
-    let es = c.self.inside.places.entries in
-    let held = sym (length-map es (λ e. msg_of (node_at a.links.nodes e.1))) ∙ ap (λ v. length v.msgs) c.self.view_is in
-    let full = full_where (node_at a.links.nodes) (ends_at a.links.heads.held) a.free es c.self.inside.next c.self.invariant.whole in (
-      (λ _. elim c.then-self-eq-NONE.branch [
-        then-self-eq-NONE-via-then-self-eq-NONE w ↦ inl (omega (arith, held, full.0 w.if-self-eq-NONE.true))
-      | then-self-eq-NONE-via-else-self-eq-NONE+then-self w ↦ inr (sym (ap (λ v. v.next) c.self.view_is) ∙ w.if-self.true)
-      ]),
-      (λ _. refl),
-    )
 
 pub invariant_of-self : goal.invariant_of-self
 invariant_of-self c = kept_in c.self.inside.arena c.room.new.self c.self.inside.places.entries c.self.inside.next c.room.ensures.rest.0 c.room.ensures.rest.1 c.room.ensures.same c.self.invariant
@@ -38,7 +24,12 @@ pub put-requires-clause-room : goal.put-requires-clause-room
 put-requires-clause-room c =
     let a = c.self.inside.arena in
     let full = full_where (node_at a.links.nodes) (ends_at a.links.heads.held) a.free c.self.inside.places.entries c.self.inside.next c.self.invariant.whole in
-    omega (arith, full.2, c.room.ensures.rest.1, c.if-self-eq-NONE.false)
+    let held = sym (length-map c.self.inside.places.entries (λ e. msg_of (node_at a.links.nodes e.1))) ∙ ap (λ v. length v.msgs) c.self.view_is in
+    let some : a.free ≢ none = λ q. absurd (true_false (sym (c.is_full.ensures.1 (inl (omega (arith, held, full.0 q)))) ∙ c.if-is_full.false)) in
+    omega (arith, full.2, c.room.ensures.rest.1, some)
+  where
+    true_false : true ≡ false → ⊥
+    true_false h = cc
 
 pub invariant_of-self-2 : goal.invariant_of-self-2
 invariant_of-self-2 c =
