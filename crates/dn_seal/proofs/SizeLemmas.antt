@@ -19,7 +19,7 @@ use Rattle.dn_records.specs.declared.statement.Statement.TheVariants as kinds
 use Rattle.dn_records.specs.Fields.{spell_number, bits, digest}
 use Rattle.dn_records.specs.Lists.{FitsRow, spell_row}
 use Rattle.dn_records.specs.Records.{entry, listed, shown_cipher, spell_thin, statement_bytes, IsStatement}
-use Rattle.dn_roster.specs.Dealing.{number_of}
+use Rattle.dn_wire.specs.Signer.{number_of}
 use Rattle.dn_roster.specs.Roster.{signed_bytes_of}
 use Rattle.dn_lms.proofs.SizeLemmas.{verified_short}
 use Rattle.dn_seal.specs.Signer.{CanSign}
