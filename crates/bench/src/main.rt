@@ -5,6 +5,7 @@
 #![tactic(auto)]
 
 mod deal;
+mod flight;
 mod lms;
 mod pads;
 mod records;
@@ -66,6 +67,7 @@ fn measure(rt: &HostRuntime, words: &[String]) -> Result<String> {
             number(words, 3)?,
         ),
         "deal" => deal::line(alloc, group(words)?),
+        "flight" => flight::line(rt, alloc, number(words, 1)?, number(words, 2)?),
         name => bail!("no measure {name:?}"),
     }
 }
