@@ -1,10 +1,9 @@
 -- A flight without messages.
 use Rattle.std.proofs.Common.{◌≡◌, ℕ, zero, suc, ◌+◌, ◌<◌, ◌≤◌, List, [], ◌∷◌, ◌++◌, length, cond, nat_lt, Bool, refl, ap, ◌∙◌, sym, subst, arith, eq-eqb, ne_eqb, le-ltb, lt-ltb}
-use Rattle.std.specs.BTreeMap.{BTreeMap}
 use mathlib.Core.Logic.{dite}
 use native.Mathlib.Decide.{ℕ_discrete}
 use Rattle.dn_nodes.specs.declared.node.Node.{Node}
-use Rattle.dn_flight.specs.Arena.{none, node_at, ends_at, no_ends, free_node}
+use Rattle.dn_flight.specs.Arena.{none, no_ends, free_node}
 use Rattle.dn_flight.specs.Side.{first_end, last_end}
 use Rattle.dn_flight.specs.Whole.{IsWhole, IsFree, times}
 use Rattle.dn_flight.specs.declared.heads.Ends.{Ends}

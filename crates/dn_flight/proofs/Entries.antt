@@ -11,7 +11,7 @@ use Rattle.std.specs.declared.cmp.Ordering.TheVariants.{Less, Equal, Greater}
 use mathlib.Core.Logic.{dite}
 use native.Mathlib.Decide.{ℕ_discrete}
 use Rattle.dn_nodes.specs.declared.node.Node.{Node}
-use Rattle.dn_flight.specs.Arena.{node_at, msg_of}
+use Rattle.dn_flight.specs.Arena.{msg_of}
 use Rattle.dn_flight.specs.Flight.{AreFrom, with_id, without_id}
 use Rattle.dn_flight.specs.Whole.{msgs_at}
 use Rattle.dn_flight.specs.declared.msg.Msg.{Msg}

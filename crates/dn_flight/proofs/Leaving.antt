@@ -1,28 +1,27 @@
 -- A sender leaves: its messages are taken out of their receivers' lists one by one, while its own list stays unmended. Beside the arena as
 -- it is stands the arena as it would be with that list mended; they differ in what only that list says.
-use Rattle.std.proofs.Common.{◌≡◌, ◌≢◌, ℕ, suc, ◌+◌, ◌*◌, ◌<◌, ◌≤◌, ◌⊎◌, ◌==◌, ◌&&◌, List, [], ◌∷◌, ◌++◌, length, length-append, filter, not, fold, cond, count_by, nat_lt, Bool, true, false, refl, ap, ◌∙◌, sym, subst, arith, eq-eqb, ne_eqb, eqb-true, le-ltb, append_assoc, Some}
+use Rattle.std.proofs.Common.{◌≡◌, ◌≢◌, ℕ, suc, ◌+◌, ◌<◌, ◌≤◌, ◌==◌, ◌&&◌, List, [], ◌∷◌, ◌++◌, length, length-append, filter, not, fold, cond, count_by, Bool, true, false, refl, ap, ◌∙◌, sym, subst, arith, eq-eqb, ne_eqb, eqb-true, le-ltb, append_assoc, Some}
 use Rattle.std.proofs.lemmas.List.{map-append}
 use Rattle.std.specs.BTreeMap.{is_at}
 use Rattle.std.specs.Map.{remove_entry}
 use Rattle.std.specs.Ordering.{nat_cmp}
 use mathlib.Core.Logic.{dite}
-use native.Mathlib.Decide.{ℕ_discrete, dec_le}
+use native.Mathlib.Decide.{dec_le}
 use Rattle.dn_wire.specs.declared.ids.Member.{Member}
 use Rattle.dn_nodes.specs.declared.node.Node.{Node}
 use Rattle.dn_flight.specs.Arena.{none, number_of, msg_of, free_node, without_from}
-use Rattle.dn_flight.specs.Chains.{has, first_of, last_of, last_from, count, IsLinked}
+use Rattle.dn_flight.specs.Chains.{has, first_of, last_of, count, IsLinked}
 use Rattle.dn_flight.specs.Flight.{AreFrom, is_from, is_to, next_in, first_id, after_id, all_to}
 use Rattle.dn_flight.specs.Side.{key_of, before_of, after_of, with_before, with_after, first_end, last_end, with_first, with_last}
-use Rattle.dn_flight.specs.Whole.{IsWhole, IsFree, msgs_at, cells, times, unlinked, unended, id_at}
+use Rattle.dn_flight.specs.Whole.{IsWhole, IsFree, msgs_at, cells, unlinked, unended, id_at}
 use Rattle.dn_flight.specs.declared.heads.Ends.{Ends}
 use Rattle.dn_flight.specs.declared.msg.Msg.{Msg}
 use Rattle.dn_flight.specs.declared.side.Side.{Side}
 use Rattle.dn_flight.specs.declared.side.Side.TheVariants.{To, From}
-use Rattle.dn_flight.proofs.Chains.{last_not, linked_same, has_at, eqb}
-use Rattle.dn_flight.proofs.Entries.{without_one}
+use Rattle.dn_flight.proofs.Chains.{last_not, linked_same, has_at}
 use Rattle.dn_flight.proofs.Members.{member_test}
 use Rattle.dn_flight.proofs.Nodes.{key_unlinked, first_unended}
-use Rattle.dn_flight.proofs.Removed.{map_same, free_same, one_most, place_low, before_low, after_low, has_end, free_low, msgs_same, whole_removed}
+use Rattle.dn_flight.proofs.Removed.{map_same, free_same, place_low, before_low, after_low, has_end, free_low, msgs_same, whole_removed}
 use Rattle.dn_flight.proofs.Walks.{AreLow, FirstAt, first_at, none_with, removed_at, first_to_member, after_it}
 
 -- the node n as it is, and as it would be: they differ at most in which one stands before it in the sender's list

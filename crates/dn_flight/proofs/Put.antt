@@ -1,12 +1,11 @@
 -- A flight after a message was put.
 use Rattle.std.proofs.Common.{◌≡◌, ◌≢◌, ℕ, ◌+◌, ◌<◌, ◌≤◌, ⊎_elim, ◌==◌, ◌&&◌, List, [], ◌∷◌, ◌++◌, length, length-append, cond, nat_lt, Bool, true, false, refl, ap, ◌∙◌, sym, subst, arith, eq-eqb, le-ltb, set, get_or-set_same, get_or-set_other}
 use Rattle.std.proofs.lemmas.List.{map-append}
-use Rattle.std.specs.BTreeMap.{BTreeMap}
 use mathlib.Core.Logic.{dite}
 use native.Mathlib.Decide.{ℕ_discrete, dec_le}
 use Rattle.dn_wire.specs.declared.ids.Member.{Member}
 use Rattle.dn_nodes.specs.declared.node.Node.{Node}
-use Rattle.dn_flight.specs.Arena.{none, node_at, ends_at, msg_of, number_of, free_node}
+use Rattle.dn_flight.specs.Arena.{none, node_at, msg_of, number_of, free_node}
 use Rattle.dn_flight.specs.Chains.{first_of, last_of, count, IsLinked, IsApart}
 use Rattle.dn_flight.specs.Flight.{AreFrom}
 use Rattle.dn_flight.specs.Side.{key_of, before_of, after_of, first_end, last_end}

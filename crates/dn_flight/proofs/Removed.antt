@@ -7,7 +7,7 @@ use Rattle.std.specs.Ordering.{nat_cmp}
 use mathlib.Core.Logic.{dite}
 use native.Mathlib.Decide.{dec_le}
 use Rattle.dn_nodes.specs.declared.node.Node.{Node}
-use Rattle.dn_flight.specs.Arena.{none, node_at, ends_at, no_ends, msg_of, free_node, IsKnown}
+use Rattle.dn_flight.specs.Arena.{none, ends_at, no_ends, msg_of, free_node, IsKnown}
 use Rattle.dn_flight.specs.Chains.{has, first_of, last_of, count, IsLinked, IsApart}
 use Rattle.dn_flight.specs.Flight.{AreFrom}
 use Rattle.dn_flight.specs.Side.{key_of, before_of, after_of, first_end, last_end}

@@ -1,5 +1,5 @@
 -- A place is free exactly where fewer messages are held than there are places.
-use Rattle.std.proofs.Common.{◌≡◌, ◌≢◌, ℕ, ◌+◌, ◌<◌, ◌≤◌, ◌==◌, List, [], ◌∷◌, ◌++◌, length, cond, nat_lt, Bool, refl, ap, sym, ◌∙◌, subst, arith, eq-eqb, le-ltb}
+use Rattle.std.proofs.Common.{◌≡◌, ℕ, ◌+◌, ◌<◌, ◌≤◌, List, [], ◌∷◌, ◌++◌, length, cond, nat_lt, Bool, ap, sym, ◌∙◌, subst, arith, eq-eqb, le-ltb}
 use Rattle.std.proofs.lemmas.List.{map-append}
 use mathlib.Core.Logic.{dite}
 use native.Mathlib.Decide.{dec_le}

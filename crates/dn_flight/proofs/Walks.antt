@@ -1,5 +1,5 @@
 -- The first message of a list, and the next one.
-use Rattle.std.proofs.Common.{◌≡◌, ◌≢◌, ℕ, ◌+◌, ◌<◌, ◌≤◌, ◌==◌, ◌&&◌, List, [], ◌∷◌, ◌++◌, filter, cond, nat_lt, Bool, true, false, refl, ap, ◌∙◌, sym, subst, arith, eq-eqb, ne_eqb, eqb-true, lt-ltb, le-ltb, Option, Some, None, slice_get}
+use Rattle.std.proofs.Common.{◌≡◌, ◌≢◌, ℕ, ◌+◌, ◌<◌, ◌≤◌, ◌==◌, ◌&&◌, List, [], ◌∷◌, ◌++◌, filter, cond, nat_lt, Bool, true, false, refl, ap, ◌∙◌, sym, subst, arith, eq-eqb, ne_eqb, eqb-true, lt-ltb, le-ltb, Some, None, slice_get}
 use Rattle.std.proofs.lemmas.List.{map-append}
 use Rattle.std.specs.BTreeMap.{is_at}
 use Rattle.std.specs.Cmp.{unsigned_tied}
@@ -13,12 +13,12 @@ use Rattle.dn_wire.specs.declared.ids.Member.{Member}
 use Rattle.dn_nodes.specs.declared.node.Node.{Node}
 use Rattle.dn_flight.specs.Arena.{none, number_of, msg_of}
 use Rattle.dn_flight.specs.Chains.{has, first_of}
-use Rattle.dn_flight.specs.Flight.{AreFrom, first_id, after_id, all_to, is_to}
+use Rattle.dn_flight.specs.Flight.{AreFrom, first_id, after_id, all_to}
 use Rattle.dn_flight.specs.Side.{key_of}
 use Rattle.dn_flight.specs.Whole.{msgs_at, cells, id_at}
 use Rattle.dn_flight.specs.declared.msg.Msg.{Msg}
 use Rattle.dn_flight.specs.declared.side.Side.{Side}
-use Rattle.dn_flight.specs.declared.side.Side.TheVariants.{To, From}
+use Rattle.dn_flight.specs.declared.side.Side.TheVariants.{To}
 use Rattle.dn_flight.proofs.Entries.{at_least}
 use Rattle.dn_flight.proofs.Members.{member_test}
 

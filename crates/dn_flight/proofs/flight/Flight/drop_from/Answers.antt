@@ -1,4 +1,4 @@
-use Rattle.std.proofs.Common.{arith, ◌≡◌, ◌≢◌, ◌==◌, ◌<◌, ◌++◌, ℕ, cond, count_by, filter, not, length, ap, sym, subst, ◌∙◌}
+use Rattle.std.proofs.Common.{arith, ◌==◌, ◌<◌, ◌++◌, ℕ, cond, count_by, filter, not, length, ap, sym, subst, ◌∙◌}
 use Rattle.std.specs.BTreeMap.{is_at}
 use Rattle.std.specs.Map.{remove_entry}
 use Rattle.std.specs.Ordering.{nat_cmp}

@@ -1,4 +1,4 @@
-use Rattle.std.proofs.Common.{◌≡◌, ap, sym, ◌∙◌}
+use Rattle.std.proofs.Common.{ap, ◌∙◌}
 use Rattle.dn_flight.specs.Arena.{node_at}
 use Rattle.dn_flight.specs.Flight.{first_id}
 use Rattle.dn_flight.proofs.Walks.{first_is}

@@ -1,4 +1,4 @@
-use Rattle.std.proofs.Common.{◌≡◌, ap, sym, ◌∙◌, arith}
+use Rattle.std.proofs.Common.{ap, ◌∙◌, arith}
 use Rattle.dn_flight.specs.Arena.{node_at, ends_at, number_of}
 use Rattle.dn_flight.specs.Flight.{first_id, all_to}
 use Rattle.dn_flight.specs.Whole.{id_at}

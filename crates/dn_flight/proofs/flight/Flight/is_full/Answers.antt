@@ -1,6 +1,6 @@
-use Rattle.std.proofs.Common.{arith, ◌≡◌, ◌≤◌, ℕ, ap, sym, ◌∙◌, length, inl, inr, ⊎_elim, eqb-true, eq-eqb}
+use Rattle.std.proofs.Common.{arith, ap, sym, ◌∙◌, length, inl, inr, ⊎_elim, eqb-true, eq-eqb}
 use Rattle.std.proofs.lemmas.List.{length-map}
-use Rattle.dn_flight.specs.Arena.{none, node_at, ends_at, msg_of}
+use Rattle.dn_flight.specs.Arena.{node_at, ends_at, msg_of}
 use Rattle.dn_flight.proofs.Room.{full_where}
 use Rattle.dn_flight.proofs.flight.Flight.is_full.Goals as goal
 

@@ -1,4 +1,4 @@
-use Rattle.std.proofs.Common.{arith, ◌≡◌, ◌≢◌, ◌<◌, ◌≤◌, ◌+◌, ◌++◌, ◌∷◌, [], ℕ, refl, ap, sym, subst, ◌∙◌, length, inl, true, false}
+use Rattle.std.proofs.Common.{arith, ◌≡◌, ◌≢◌, ◌+◌, ◌++◌, ◌∷◌, [], ℕ, refl, ap, sym, subst, ◌∙◌, length, inl, true, false}
 use Rattle.std.proofs.lemmas.List.{length-map}
 use Rattle.dn_flight.specs.Arena.{none, node_at, ends_at, msg_of}
 use Rattle.dn_flight.specs.Whole.{IsKept, msgs_at, msgs_in}
