@@ -1,6 +1,4 @@
-use Rattle.std.proofs.Common.{◌≡◌, ℕ, List}
-use Rattle.dn_records.specs.declared.body.Body.{Body}
-use Rattle.dn_cert.specs.Chain.{ChainView, bodies}
+use Rattle.dn_cert.specs.Chain.{bodies}
 use Rattle.dn_cert.proofs.GrowthLemmas.{held_stays, held_comes, held_only, layouts_stay_on, counts_stay_on}
 use Rattle.dn_cert.proofs.chain_laws.what_is_held_stays.Goals as goal
 

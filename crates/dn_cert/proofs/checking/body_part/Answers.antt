@@ -1,5 +1,4 @@
-use Rattle.std.proofs.Common.{◌≡◌, ◌+◌, ◌-◌, length, ◌∙◌, arith}
-use Rattle.dn_records.specs.Records.{body_bytes}
+use Rattle.std.proofs.Common.{arith}
 use Rattle.dn_cert.proofs.SpelledBody.{body_few, room_for_body, number_of_bytes, body_there}
 use Rattle.dn_cert.proofs.checking.body_part.Goals as goal
 
