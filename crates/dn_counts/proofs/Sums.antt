@@ -5,7 +5,8 @@ use mathlib.Core.Logic.{dite}
 use mathlib.Core.Option.{some, some-injective, some-ne-none}
 use native.Mathlib.Decide.{ℕ_discrete, dec_le}
 use lib.ListN.{get_elem?}
-use Rattle.dn_gate.specs.Rule.{total, times, equal, once_below}
+use Rattle.dn_counts.specs.Counts.{total, times, equal, once_below}
+use Rattle.dn_counts.specs.Numbers.{range}
 
 module _ {A : Type 0} (g : A → ℕ) where
   pub total-append : (l m : List A) → total g (l ++ m) ≡ total g l + total g m
@@ -107,3 +108,24 @@ module _ {A : Type 0} (g : A → ℕ) where
   someone (x ∷ xs) h = dite (dec_le (g x) 0)
       (λ le. let t = someone xs (omega arith) in (suc t.0, t.1, t.2, t.3))
       (λ gt. (0, x, refl, omega arith))
+
+pub length-range : (n k : ℕ) → length (range n k) ≡ k
+length-range n zero = refl
+length-range n (suc k) = omega (arith, length-range (n + 1) k)
+
+times_below : (n k x : ℕ) → x < n → times x (range n k) ≡ 0
+times_below n zero x h = refl
+times_below n (suc k) x h = omega (arith, times-append x (n ∷ []) (range (n + 1) k), miss n x (λ e. omega arith), times_below (n + 1) k x (omega arith))
+
+pub times-range : (n k x : ℕ) → times x (range n k) ≤ 1
+times-range n zero x = omega arith
+times-range n (suc k) x = dite (ℕ_discrete n x)
+    (λ e. omega (arith, times-append x (n ∷ []) (range (n + 1) k), hit n x e, times_below (n + 1) k x (omega arith)))
+    (λ ne. omega (arith, times-append x (n ∷ []) (range (n + 1) k), miss n x ne, times-range (n + 1) k x))
+
+times_above : (n k x : ℕ) → n + k ≤ x → times x (range n k) ≡ 0
+times_above n zero x h = refl
+times_above n (suc k) x h = omega (arith, times-append x (n ∷ []) (range (n + 1) k), miss n x (λ e. omega arith), times_above (n + 1) k x (omega arith))
+
+pub range_below : (p x : ℕ) → 0 < times x (range 0 p) → x < p
+range_below p x h = dite (dec_le p x) (λ le. absurd (omega (arith, times_above 0 p x (omega arith), h))) (λ gt. omega arith)
