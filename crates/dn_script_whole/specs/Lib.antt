@@ -1,0 +1,5 @@
+pub mod Words
+pub mod Judged
+pub mod Row
+pub mod Script
+pub mod Spelled
