@@ -1,3 +1,0 @@
-pub mod WordsLaws
-pub mod JudgeLaws
-pub mod RowLaws

@@ -1,7 +1,0 @@
-use Rattle.std.proofs.Common.{◌≡◌, take, false}
-use Rattle.std.specs.List.{All}
-use Rattle.dn_script_whole.specs.Words.{is_gap}
-use Rattle.dn_script_whole.proofs.words.word_length.Given as goal
-
-abbrev pub invariant-loop-i : goal.invariant-loop-i
-invariant-loop-i l = All (λ b. is_gap b ≡ false) (take l.i l.line)
