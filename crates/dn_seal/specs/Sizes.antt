@@ -12,7 +12,7 @@ abbrev pub HasShortSignatures : Statement → Type 0
 HasShortSignatures (kinds.Inventory v) = All (λ e. length e.signature ≤ longest_signature) v.entries
 HasShortSignatures _ = Unit {0}
 
--- the number of bits of a string, and its bytes
+-- a string of 65,536 bits: their number, and its bytes
 abbrev pub longest_bits : ℕ
 longest_bits = 4 + 8192
 
