@@ -1,8 +1,8 @@
 ghost use Rattle.std.specs.Prelude.{◌≡◌, ◌↔◌, ◌⊎◌, ◌<◌, ℕ, List, [], length, slice_index_or, IfOk, IfErr, IsTrue, MatchResult};
 ghost use Rattle.dn_records.specs.Part.{Gives};
 ghost use Rattle.dn_records.specs.Records.{IsPayload, IsBody, payload_bytes, statement_bytes};
-ghost use Rattle.dn_records.specs.declared.body.Body.{Body};
-ghost use Rattle.dn_records.specs.declared.payload.Payload.TheVariants as payloads;
+ghost use Rattle.dn_record_types.specs.declared.body.Body.{Body};
+ghost use Rattle.dn_record_types.specs.declared.payload.Payload.TheVariants as payloads;
 ghost use Rattle.dn_roster.specs.Roster.{digest_of};
 ghost use Rattle.dn_cert.specs.Certificate.{IsCertificate, IsUnder, IsOfRoster, digests_due, IsSigned, IsUnsigned, IsRefused, FirstUnsigned, certificate_of};
 

@@ -6,7 +6,7 @@ ghost use Rattle.dn_lms.specs.Signature.{public_key};
 ghost use Rattle.dn_wire.specs.Signer.{number_of};
 ghost use Rattle.dn_roster.specs.Dealing.{mask_secret_of};
 ghost use Rattle.dn_roster.specs.Roster.{key_of, commitment_of};
-ghost use Rattle.dn_records.specs.declared.statement.Statement.{Statement};
+ghost use Rattle.dn_record_types.specs.declared.statement.Statement.{Statement};
 ghost use Rattle.dn_roster.specs.Roster.{RosterView};
 ghost use Rattle.dn_seal.specs.Said.{SaidView, IsSaid, IsUnder, Unseals};
 ghost use Rattle.dn_seal.specs.Dealt.{IsMember, signers_like, client, server, slot, key_dealt_to, seed_dealt_to};

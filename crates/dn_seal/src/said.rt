@@ -1,7 +1,7 @@
 ghost use Rattle.std.specs.Prelude.{◌≡◌, ◌≤◌, List, ℕ, Some, IfOk, IfErr, MatchResult};
 ghost use Rattle.dn_roster.specs.Roster.{key_of, digest_of};
 ghost use Rattle.dn_records.specs.Records.{statement_bytes, envelope_bytes, IsEnvelope};
-ghost use Rattle.dn_records.specs.declared.envelope.Envelope.{Envelope};
+ghost use Rattle.dn_record_types.specs.declared.envelope.Envelope.{Envelope};
 ghost use Rattle.dn_seal.specs.Said.{SaidView, IsSaid, IsUnder, Unseals, IsUnopened, Signs};
 
 use crate::unopened::Unopened;
