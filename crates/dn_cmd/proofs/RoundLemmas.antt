@@ -14,7 +14,8 @@ use Rattle.dn_pads.specs.Pads.{keystream_bit}
 use Rattle.dn_script.specs.Plain.{Plain, or_else, said_in, said_by, message, Fits, IsScript}
 use Rattle.dn_script.specs.declared.plain_line.PlainLine.{PlainLine}
 use Rattle.dn_script.specs.declared.plain_line.PlainLine.TheVariants.{Say, Submit, Tick, Close}
-use Rattle.dn_cmd.specs.Round.{pair_seed, pair_pad, counted, cipher, held, server, output}
+use Rattle.dn_roster.specs.Dealing.{pair_seed_of}
+use Rattle.dn_cmd.specs.Round.{pair_pad, counted, cipher, held, server, output}
 use Rattle.dn_cmd.specs.Window.{has_window, is_included, with_lines}
 use Rattle.dn_bits.specs.Bits.{below, zeros, xor_bits, sum_bits}
 use Rattle.dn_bits.proofs.SumLemmas.{below_more, sum-push, length-sum, xor_assoc, xor_comm, xor_zeros, zeros_xor, xor_self, length-xor, sum_of_xor, sum_swap}
@@ -23,23 +24,10 @@ pub flat_below_more : {A : Type 0} (f : ℕ → List A) (t : ℕ) → flat_map f
 flat_below_more f t =
     ap (flat_map f) (below_more t) ∙ flat_map-append f (below t) (t ∷ []) ∙ ap (λ l. flat_map f (below t) ++ l) (append-nil (f t))
 
-pub length-put_mid : (a k : ℕ) (xs ys : List ℕ) → a + k ≤ length xs → length ys ≡ k → length (put_mid a k xs ys) ≡ length xs
-length-put_mid a k xs ys fits same =
-    omega (
-      arith,
-      length-append (take a xs) (ys ++ drop k (drop a xs)),
-      length-append ys (drop k (drop a xs)),
-      length-drop k (drop a xs),
-      length-drop a xs,
-      ap length (take-append-drop a xs),
-      length-append (take a xs) (drop a xs),
-      same,
-    )
-
 -- ---- lengths
 
 pub length-pad : (p : Plain) (i j : ℕ) → length (pair_pad p i j) ≡ p.bits
-length-pad p i j = length-map-range_with_len (keystream_bit (pair_seed p.seed p.servers i j) 1) 0 p.bits
+length-pad p i j = length-map-range_with_len (keystream_bit (pair_seed_of p.seed p.servers i j) 1) 0 p.bits
 
 one_said : (clients bits i : ℕ) (line : PlainLine) (rest : Option (List Bool)) → Fits clients bits line
     → length (unwrap_or rest (zeros bits)) ≡ bits → length (unwrap_or (or_else (said_in line i) rest) (zeros bits)) ≡ bits

@@ -1,27 +1,17 @@
 -- One plain round: the pads of each pair, the ciphertexts of clients and servers, and the text that tells them.
 use Rattle.std.specs.Prelude.{ℕ, ◌+◌, ◌*◌, ◌%◌, ◌==◌, Bool, List, ◌++◌, map, filter, codes}
 use Rattle.std.specs.List.{flat_map}
-use Rattle.std.specs.Int.{w32, to_le_bytes}
 use Rattle.std.specs.Fmt.{decimal}
-use Rattle.rand_chacha.specs.ChaCha.{word_at, key_of}
 use Rattle.dn_bits.specs.Bits.{below, xor_bits, sum_bits}
 use Rattle.dn_pads.specs.Pads.{pad_of}
+use Rattle.dn_roster.specs.Dealing.{pair_seed_of}
 use Rattle.dn_script.specs.Plain.{Plain, message, hex_of}
 pub use Rattle.dn_cmd.specs.Window.{counted}
 use Rattle.dn_cmd.specs.Window.{window_text}
 
--- word t of the seed of client i and server j: the dealer's keystream on stream 1, from word 8 * (i * servers + j)
--- on
-abbrev pub seed_word : List ℕ → ℕ → ℕ → ℕ → ℕ → ℕ
-seed_word seed servers i j t = word_at 10 (key_of seed) 1 (8 * (i * servers + j) + t)
-
--- the 32 bytes of that seed, each word's low byte first
-unfoldable pub pair_seed : List ℕ → ℕ → ℕ → ℕ → List ℕ
-pair_seed seed servers i j = flat_map (λ t. to_le_bytes w32 (seed_word seed servers i j t)) (below 8)
-
 -- the pad of client i and server j in round 1
 abbrev pub pair_pad : Plain → ℕ → ℕ → List Bool
-pair_pad p i j = pad_of (pair_seed p.seed p.servers i j) 1 p.bits
+pair_pad p i j = pad_of (pair_seed_of p.seed p.servers i j) 1 p.bits
 
 -- client i's message and its pads
 abbrev pub cipher : Plain → ℕ → List Bool

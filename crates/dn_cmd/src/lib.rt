@@ -4,7 +4,6 @@
 #![tactic(auto)]
 
 mod command;
-mod dealing;
 mod round;
 mod text;
 mod window;

@@ -3,12 +3,12 @@ ghost use Rattle.dn_bits.specs.Bits.{xor_bits, sum_bits, below};
 ghost use Rattle.dn_script.specs.Plain.{IsScript};
 ghost use Rattle.dn_cmd.specs.Round as spec;
 
-use crate::dealing::pair_seed;
 use dn_bits::Bits;
 use dn_memory::NoMemory;
 use dn_pads::add_pad;
+use dn_roster::pair_seed_in;
 use dn_script::PlainScript;
-use dn_wire::{ClientId, Round};
+use dn_wire::{ClientId, Round, ServerId};
 use std::alloc::Global;
 
 /// A plain script has one round.
@@ -24,7 +24,7 @@ fn add_client_pads(bits: &mut Bits, script: &PlainScript, client: u32)
 {
     let servers = script.servers();
     for server in 0..servers {
-        let seed = pair_seed(script.seed(), servers, client, server);
+        let seed = pair_seed_in(script.seed(), servers, ClientId(client), ServerId(server));
         add_pad(bits, &seed, ROUND);
     }
 }
@@ -40,7 +40,7 @@ fn add_server_pads(bits: &mut Bits, script: &PlainScript, counted: &[u32], serve
 {
     let servers = script.servers();
     for client in counted {
-        let seed = pair_seed(script.seed(), servers, *client, server);
+        let seed = pair_seed_in(script.seed(), servers, ClientId(*client), ServerId(server));
         add_pad(bits, &seed, ROUND);
     }
 }

@@ -10,7 +10,7 @@ use Rattle.dn_ots.specs.Ots.{ots_public}
 use Rattle.dn_lms.specs.Key.{Key, height, leaves_of, leaf_count}
 use Rattle.dn_lms.specs.Tree.{node, root, inner_hash, leaf_hash, path_node, sibling}
 use Rattle.dn_lms.specs.Filled.{StandsAt, HasAbove, HasLeaves, HasTree}
-use Rattle.dn_lms.specs.Laws.{leaf_node, sibling_even, sibling_odd, half}
+use Rattle.dn_lms_definitions.proofs.Laws.{leaf_node, sibling_even, sibling_odd, half}
 
 -- a value written at place r + k, with those written before it
 pub written_more : (tree : List (List ℕ)) (f : ℕ → List ℕ) (x : List ℕ) (r k : ℕ) → r + k < length tree → x ≡ f k

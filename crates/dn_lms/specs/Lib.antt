@@ -1,7 +1,6 @@
-pub mod Key
-pub mod Tree
-pub mod Signature
+pub use Rattle.dn_lms_definitions.specs.Key
+pub use Rattle.dn_lms_definitions.specs.Tree
+pub use Rattle.dn_lms_definitions.specs.Signature
 pub mod Filled
 pub mod Pair
-pub mod Laws
 pub mod Fault

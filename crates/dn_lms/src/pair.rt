@@ -113,7 +113,7 @@ impl SigKey for KeyPair {
     ghost use Rattle.std.specs.Prelude.{◌≡◌, ◌<◌, ◌↔◌, IfOk, IsTrue};
     ghost use Rattle.dn_lms.specs.Key.{IsKey, leaf_count};
     ghost use Rattle.dn_lms.specs.Signature.{Verifies, lms_signature, public_key};
-    ghost use Rattle.dn_lms.specs.Laws.{lms_signature-verifies};
+    ghost use Rattle.dn_lms_definitions.proofs.Laws.{lms_signature-verifies};
 
     ghost IsOne = { IsKey };
 

@@ -36,14 +36,21 @@ pub fn deal_into(seed: &[u8; 32], stream: u64, place: u128, bytes: &mut [u8])
     }
 }
 
+/// The seed that client `i` shares with server `j` in a group of so many servers, from the dealer's seed alone.
+pub fn pair_seed_in(dealer: &[u8; 32], servers: u32, i: ClientId, j: ServerId) -> [u8; 32]
+    ensures { result ≡ pair_seed_of dealer.now servers i.0 j.0 }
+{
+    let pair = u128::from(i.0) * u128::from(servers) + u128::from(j.0);
+    let mut seed = [0; 32];
+    deal_into(dealer, PAIR_SEEDS, 8 * pair, &mut seed);
+    seed
+}
+
 /// The seed that client `i` shares with server `j`.
 pub fn pair_seed(group: &GroupSpec, i: ClientId, j: ServerId) -> [u8; 32]
     ensures { result ≡ pair_seed_of group.now.seed group.now.servers i.0 j.0 }
 {
-    let pair = u128::from(i.0) * u128::from(group.servers) + u128::from(j.0);
-    let mut seed = [0; 32];
-    deal_into(&group.seed, PAIR_SEEDS, 8 * pair, &mut seed);
-    seed
+    pair_seed_in(&group.seed, group.servers, i, j)
 }
 
 /// What a key pair of LMS is made from (RFC 8554, section 5.2).

@@ -14,7 +14,7 @@ mod roster;
 #[cfg(test)]
 mod tests;
 
-pub use dealing::{DealtKey, deal_into, mask_secret, member_key, pair_seed};
+pub use dealing::{DealtKey, deal_into, mask_secret, member_key, pair_seed, pair_seed_in};
 pub use group::GroupSpec;
 pub use laws::owners_are_one_list;
 pub use owners::slot_owners;

@@ -7,7 +7,7 @@ use Rattle.dn_record_types.proofs.RecordLaws.{envelope_once}
 use Rattle.dn_records.specs.Records.{statement_bytes}
 use Rattle.dn_lms.specs.Key.{Key, IsKey, leaf_count}
 use Rattle.dn_lms.specs.Signature.{public_key, lms_signature}
-use Rattle.dn_lms.specs.Laws.{lms_signature-verifies}
+use Rattle.dn_lms_definitions.proofs.Laws.{lms_signature-verifies}
 use Rattle.dn_roster.specs.Roster.{RosterView, key_of, digest_of, signed_bytes_of}
 use Rattle.dn_seal.specs.Signer.{CanSign, envelope, sealed_in}
 use Rattle.dn_seal.specs.Said.{SaidView, IsSaid, IsUnder, Unseals}

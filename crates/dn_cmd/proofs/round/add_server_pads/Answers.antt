@@ -1,7 +1,8 @@
 use Rattle.std.proofs.Common.{◌∙◌, ap, length, get_or, take, refl, arith}
 use Rattle.dn_bits.specs.Bits.{xor_bits}
 use Rattle.dn_pads.specs.Pads.{pad_of}
-use Rattle.dn_cmd.specs.Round.{pair_pad, pair_seed}
+use Rattle.dn_roster.specs.Dealing.{pair_seed_of}
+use Rattle.dn_cmd.specs.Round.{pair_pad}
 use Rattle.dn_cmd.proofs.RoundLemmas.{add_none, add_next, length-so_far, length-pad, counted_within}
 use Rattle.dn_cmd.proofs.round.add_server_pads.Goals as goal
 
@@ -9,15 +10,6 @@ pub loop-client-init : goal.loop-client-init
 loop-client-init c =
     let p = c.args.script.now in
     add_none p.bits (λ i. pair_pad p i c.args.server) (λ i. length-pad p i c.args.server) c.args.bits.now c.requires.long
-
-pub pair_seed-seed-requires : goal.pair_seed-seed-requires
-pair_seed-seed-requires c =
-    let p = c.args.script.now in
-    let within = counted_within p c.args.counted.now c.loop-client.client-index c.requires.counted c.loop-client-test.true in (
-      omega (arith, c.servers-servers.ensures, c.requires.legal.servers),
-      omega (arith, within, c.requires.legal.clients),
-      omega (arith, c.servers-servers.ensures, c.requires.within),
-    )
 
 pub loop-client-preserved : goal.loop-client-preserved
 loop-client-preserved c =
@@ -30,7 +22,7 @@ loop-client-preserved c =
     c.loop-client-test.true refl c.loop-client.invariant
     (c.add_pad.ensures ∙ ap (xor_bits c.loop-client.bits) (
     ap (λ s. pad_of s 1 (length c.loop-client.bits)) (
-    c.pair_seed-seed.ensures
-    ∙ ap (λ s. pair_seed s c.servers-servers.result (get_or is k 0) j) c.seed.ensures
-    ∙ ap (λ m. pair_seed p.seed m (get_or is k 0) j) c.servers-servers.ensures)
-    ∙ ap (pad_of (pair_seed p.seed p.servers (get_or is k 0) j) 1) long))
+    c.pair_seed_in-seed.ensures
+    ∙ ap (λ s. pair_seed_of s c.servers-servers.result (get_or is k 0) j) c.seed.ensures
+    ∙ ap (λ m. pair_seed_of p.seed m (get_or is k 0) j) c.servers-servers.ensures)
+    ∙ ap (pad_of (pair_seed_of p.seed p.servers (get_or is k 0) j) 1) long))

@@ -1,4 +1,4 @@
-use Rattle.dn_lms.specs.Laws.{length-public_key, length-lms_signature}
+use Rattle.dn_lms_definitions.proofs.Laws.{length-public_key, length-lms_signature}
 use Rattle.dn_lms.proofs.laws.lengths_go_by_codes.Goals as goal
 
 pub returns-clause-public_key : goal.returns-clause-public_key

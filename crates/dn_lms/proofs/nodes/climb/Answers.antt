@@ -1,6 +1,6 @@
 use Rattle.std.proofs.Common.{◌≡◌, ◌+◌, ◌-◌, ◌*◌, ℕ, take, drop, sym, ap, arith, add-one}
 use Rattle.std.proofs.Math.Nat.{div-one}
-use Rattle.dn_lms.specs.Laws.{climb_none, climb_more, half}
+use Rattle.dn_lms_definitions.proofs.Laws.{climb_none, climb_more, half}
 use Rattle.dn_lms.proofs.nodes.climb.Goals as goal
 
 pub levels-init : goal.levels-init

@@ -1,5 +1,5 @@
 use Rattle.std.proofs.Common.{◌∙◌, sym, arith}
-use Rattle.dn_lms.specs.Laws.{rise_even, rise_odd}
+use Rattle.dn_lms_definitions.proofs.Laws.{rise_even, rise_odd}
 use Rattle.dn_lms.proofs.nodes.rise.Goals as goal
 
 pub returns-then-r-eq0 : goal.returns-then-r-eq0

@@ -2,7 +2,7 @@ use Rattle.std.proofs.Common.{◌≡◌, ◌<◌, ◌+◌, ◌/◌, ◌^◌, ◌
 use Rattle.dn_ots.proofs.KeyLemmas.{joined_none, sign_more}
 use Rattle.dn_lms.specs.Key.{height, leaves_of}
 use Rattle.dn_lms.specs.Tree.{path_node, sibling}
-use Rattle.dn_lms.specs.Laws.{sizes}
+use Rattle.dn_lms_definitions.proofs.Laws.{sizes}
 use Rattle.dn_lms.proofs.TreeLemmas.{way_small, sibling_small, path_node_read}
 use Rattle.dn_lms.proofs.tree.append_path.Goals as goal
 

@@ -1,6 +1,6 @@
 use Rattle.std.proofs.Common.{◌≡◌, ◌-◌, ◌/◌, ◌∙◌, length, refl, arith}
 use Rattle.std.proofs.lemmas.List.{length-set}
-use Rattle.dn_lms.specs.Laws.{sizes}
+use Rattle.dn_lms_definitions.proofs.Laws.{sizes}
 use Rattle.dn_lms.proofs.TreeLemmas.{above_leaves, above_more}
 use Rattle.dn_lms.proofs.tree.fill_inner.Goals as goal
 

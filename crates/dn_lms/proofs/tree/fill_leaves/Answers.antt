@@ -1,6 +1,6 @@
 use Rattle.std.proofs.Common.{◌≡◌, ◌*◌, ◌∙◌, arith}
 use Rattle.dn_lms.specs.Key.{Key, leaves_of}
-use Rattle.dn_lms.specs.Laws.{sizes}
+use Rattle.dn_lms_definitions.proofs.Laws.{sizes}
 use Rattle.dn_lms.proofs.TreeLemmas.{leaves_more}
 use Rattle.dn_lms.proofs.tree.fill_leaves.Goals as goal
 

@@ -1,6 +1,6 @@
 use Rattle.std.proofs.Common.{arith}
 use Rattle.dn_lms.specs.Key.{leaves_of}
-use Rattle.dn_lms.specs.Laws.{sizes}
+use Rattle.dn_lms_definitions.proofs.Laws.{sizes}
 use Rattle.dn_lms.proofs.tree.leaves_of.Goals as goal
 
 pub overflow_shl-result : goal.overflow_shl-result

@@ -2,7 +2,7 @@ use Rattle.std.proofs.Common.{◌≡◌, ◌∙◌, refl, arith}
 use Rattle.std.proofs.lemmas.List.{take_at}
 use Rattle.dn_lms.specs.Key.{Key}
 use Rattle.dn_lms.specs.Filled.{HasLeaves}
-use Rattle.dn_lms.specs.Laws.{sizes}
+use Rattle.dn_lms_definitions.proofs.Laws.{sizes}
 use Rattle.dn_lms.proofs.tree.tree_of.Goals as goal
 
 pub fill_inner-requires : goal.fill_inner-requires

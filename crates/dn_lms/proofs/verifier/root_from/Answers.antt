@@ -1,6 +1,6 @@
 use Rattle.std.proofs.Common.{◌+◌, ◌/◌, ◌∙◌, ℕ, List, length, take, sym, ap, arith}
 use Rattle.dn_ots.specs.Ots.{ots_candidate}
-use Rattle.dn_lms.specs.Laws.{sizes}
+use Rattle.dn_lms_definitions.proofs.Laws.{sizes}
 use Rattle.dn_lms.specs.Signature.{lms_length}
 use Rattle.dn_lms.proofs.VerifyLemmas.{ots_part, length-ots_part, take-ots_part, path_part_is, path_levels, root_is}
 use Rattle.dn_lms.proofs.verifier.root_from.Goals as goal

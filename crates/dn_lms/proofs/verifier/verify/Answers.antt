@@ -1,7 +1,7 @@
 use Rattle.std.proofs.Common.{◌≡◌, ◌∙◌, drop, length, sym, refl, arith}
 use Rattle.std.proofs.lemmas.List.{take_rest}
 use Rattle.dn_lms.specs.Signature.{lms_in, ots_in, id_in}
-use Rattle.dn_lms.specs.Laws.{verifies_by_parts}
+use Rattle.dn_lms_definitions.proofs.Laws.{verifies_by_parts}
 use Rattle.dn_lms.proofs.verifier.verify.Goals as goal
 
 pub returns-in-Some : goal.returns-in-Some

@@ -1,6 +1,6 @@
 use Rattle.std.proofs.Common.{arith, [], ap, ◌∙◌, ◌≡◌, ◌<◌, length}
 use Rattle.dn_lms.specs.Key.{leaf_count}
-use Rattle.dn_lms.specs.Laws.{sizes, lms_signature-verifies}
+use Rattle.dn_lms_definitions.proofs.Laws.{sizes, lms_signature-verifies}
 use Rattle.dn_seal.proofs.dealt.public_key.Goals as goal
 
 -- what a key signs verifies, and so its public key has its length

@@ -1,6 +1,6 @@
 use Rattle.std.proofs.Common.{◌≡◌, ◌∙◌, length, [], ◌<◌, refl, arith}
 use Rattle.std.proofs.lemmas.List.{get_or_read}
-use Rattle.dn_lms.specs.Laws.{sizes}
+use Rattle.dn_lms_definitions.proofs.Laws.{sizes}
 use Rattle.dn_lms.specs.Tree.{root}
 use Rattle.dn_lms.specs.Pair.{key_of}
 use Rattle.dn_lms.specs.Signature.{public_key}

@@ -2,7 +2,7 @@ use Rattle.std.proofs.Common.{arith, ap, sym, subst, ◌∙◌, ◌≡◌, ◌++
 use Rattle.dn_records.specs.Records.{statement_bytes}
 use Rattle.dn_lms.specs.Key.{IsKey, leaf_count}
 use Rattle.dn_lms.specs.Signature.{public_key, lms_signature}
-use Rattle.dn_lms.specs.Laws.{lms_signature-verifies}
+use Rattle.dn_lms_definitions.proofs.Laws.{lms_signature-verifies}
 use Rattle.dn_roster.specs.Roster.{signed_bytes_of}
 use Rattle.dn_seal.specs.Signer.{envelope, heading, sealed_in}
 use Rattle.dn_seal.specs.Said.{Signs}

@@ -3,8 +3,8 @@ use Rattle.std.specs.Prelude.{◌≡◌, ℕ, ◌+◌, ◌*◌, ◌<◌, List, �
 use Rattle.std.specs.Int.{w32, to_be_bytes, from_be_bytes}
 use Rattle.dn_ots.specs.Parameters.{IsCode, ots_length}
 use Rattle.dn_ots.specs.Ots.{joined, ots_signature, ots_candidate}
-use Rattle.dn_lms.specs.Key.{Key, IsLms, height, leaves_of}
-use Rattle.dn_lms.specs.Tree.{root, path_node, leaf_hash, climb}
+use Rattle.dn_lms_definitions.specs.Key.{Key, IsLms, height, leaves_of}
+use Rattle.dn_lms_definitions.specs.Tree.{root, path_node, leaf_hash, climb}
 
 -- u32str(type) || u32str(otstype) || I || T[1] (section 5.3)
 unfoldable pub public_key : Key → List ℕ

@@ -9,9 +9,9 @@ use Rattle.sha2.proofs.Facts256.{length-sha256}
 use Rattle.dn_ots.specs.Parameters.{IsCode, ots_length}
 use Rattle.dn_ots.specs.Ots.{joined, ots_public, ots_signature}
 use Rattle.dn_ots.proofs.KeyLemmas.{length-joined, part-joined, length-ots_signature, take-ots_signature, ots_candidate-ots_signature}
-use Rattle.dn_lms.specs.Key.{Key, IsKey, IsLms, height, leaves_of, leaf_count}
-use Rattle.dn_lms.specs.Tree.{node, root, inner_hash, leaf_hash, path_node, path_part, rise, climb, sibling}
-use Rattle.dn_lms.specs.Signature.{Verifies, lms_signature, lms_length, public_key, candidate_root, lms_in, ots_in, id_in, root_in, number_at, leaf_in, ots_signature_in, path_in}
+use Rattle.dn_lms_definitions.specs.Key.{Key, IsKey, IsLms, height, leaves_of, leaf_count}
+use Rattle.dn_lms_definitions.specs.Tree.{node, root, inner_hash, leaf_hash, path_node, path_part, rise, climb, sibling}
+use Rattle.dn_lms_definitions.specs.Signature.{Verifies, lms_signature, lms_length, public_key, candidate_root, lms_in, ots_in, id_in, root_in, number_at, leaf_in, ots_signature_in, path_in}
 
 -- ---- the three heights
 

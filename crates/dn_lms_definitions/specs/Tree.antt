@@ -4,7 +4,7 @@ use Rattle.std.specs.Prelude.{ℕ, zero, suc, ◌+◌, ◌-◌, ◌*◌, ◌/◌
 use Rattle.std.specs.Int.{w32, to_be_bytes}
 use Rattle.sha2.specs.Sha256.{sha256}
 use Rattle.dn_ots.specs.Ots.{ots_public}
-use Rattle.dn_lms.specs.Key.{Key, height, leaf_count}
+use Rattle.dn_lms_definitions.specs.Key.{Key, height, leaf_count}
 
 -- a leaf: H(I || u32str(r) || u16str(D_LEAF) || K)
 unfoldable pub leaf_hash : List ℕ → ℕ → List ℕ → List ℕ
