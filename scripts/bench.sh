@@ -138,6 +138,8 @@ compare '512 pads of 65,536 bits, 20 times' 3 'pads 512 65536 20' 'pads 512 8192
 compare_parts 'LMS of height 10 with digits of four bits' 'make=0.55 sign=1 verify=1' 'lms 6 3 2000'
 compare 'dealing a group of 48 clients and 3 servers' 0.65 'deal 48 3 3 5 6 1' 'deal 48 3 3 5 6 1'
 rate '1,000 inventories of 100 entries with signatures of 1,292 bytes' 200 'records 1000 100 1292'
+rate 'a post line of 8 MB, read and printed 20 times' 200 'post 4000000 20'
+rate 'a script of 8 MB in 65,000 lines, read 20 times' 50 'script 65000 59 20'
 
 # Messages in flight: how long all puts, walks and takes take, and how many times as long one departure takes among many
 # messages as among few.

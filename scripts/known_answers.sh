@@ -16,7 +16,7 @@ if [ ! -d "$folder" ]; then
     exit 0
 fi
 log=$(mktemp)
-trap 'rm -f "$log"' EXIT
+trap 'rm -f "$log" "$log.reports"' EXIT
 program=${BUILT:-}
 if [ -z "$program" ]; then
     program=$top/crates/known_answers/out/known_answers
@@ -39,4 +39,16 @@ for file in $files; do
     fi
     echo "$file: $(tail -1 "$log")"
 done
+
+# The reports among the cases of runs: each line is printed as it was read.
+cat "$folder"/../run/*/stdout 2> /dev/null | awk '/^dissent-report / { on = 1 } on { print "report " $0 } /^end$/ { on = 0 }' > "$log.reports"
+if [ -s "$log.reports" ]; then
+    status=0
+    "$program" < "$log.reports" > "$log" || status=$?
+    if [ "$status" -ne 0 ]; then
+        failed=1
+        sed '$d; s/^/reports: /' "$log"
+    fi
+    echo "lines of reports: $(tail -1 "$log")"
+fi
 exit "$failed"

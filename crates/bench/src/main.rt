@@ -9,6 +9,7 @@ mod flight;
 mod lms;
 mod pads;
 mod records;
+mod text;
 
 use anyhow::{Context, Result, bail};
 use dn_roster::GroupSpec;
@@ -61,6 +62,13 @@ fn measure(rt: &HostRuntime, words: &[String]) -> Result<String> {
             number(words, 3)?,
         ),
         "records" => records::line(
+            alloc,
+            number(words, 1)?,
+            number(words, 2)?,
+            number(words, 3)?,
+        ),
+        "post" => text::post_line(alloc, number(words, 1)?, number(words, 2)?),
+        "script" => text::script_lines(
             alloc,
             number(words, 1)?,
             number(words, 2)?,

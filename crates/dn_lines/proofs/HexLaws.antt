@@ -1,12 +1,12 @@
 -- Bytes in hex, and the one spelling of each.
 use Rattle.std.proofs.Common.{◌≡◌, ℕ, zero, suc, ◌+◌, ◌*◌, ◌/◌, ◌%◌, ◌<◌, ◌≤◌, ◌==◌, Bool, true, false, ◌&&◌, inl, inr, List, [], ◌∷◌, ◌++◌, length, take, get_or, slice_index, Option, Some, None, Result, Ok, Err, refl, sym, ap, subst, ◌∙◌, arith, append_assoc}
-use Rattle.std.specs.Prelude.{nat_le, not}
+use Rattle.std.specs.Prelude.{nat_le, not, IsTrue, ◌↔◌}
 use Rattle.std.specs.List.{All}
 use Rattle.std.specs.Result.{result_ok, result_unwrap_or}
 use Rattle.std.specs.Str.{bytes_eq}
 use Rattle.std.proofs.lemmas.Bool.{and_parts, eqb-true, cases_lt, false_from_ne_true, cond-false, cond-true}
 use Rattle.std.proofs.lemmas.List.{take_more}
-use Rattle.std.proofs.lemmas.List.Elements.{All-cons, All-head, All-nil, All-tail}
+use Rattle.std.proofs.lemmas.List.Elements.{All-cons, All-head, All-more, All-nil, All-pop, All-tail}
 use Rattle.std.proofs.lemmas.Slice.Eq.{bytes_eq-Decides}
 use Rattle.hex.specs.Hex.{decode_of, decode_pairs, digit_or_error, hex_digit_value, encode_lower, encode_with, lower_digits, pair_value, value_at, ◌>>=◌}
 use Rattle.hex.specs.declared.error.FromHexError.{FromHexError}
@@ -170,3 +170,16 @@ digits_are_bytes s bytes other some lower h =
 pub empty_text : (s : List ℕ) → (length s == 0) ≡ true → s ≡ []
 empty_text [] h = refl
 empty_text (b ∷ s) h = absurd (omega (arith, eqb-true (length (b ∷ s)) 0 h))
+
+-- ---- one more character that is no upper-case letter, or is one
+
+pub lower_more : (text : List ℕ) (i : ℕ) (old one : Bool) → i < length text → IsTrue old ↔ All IsLower (take i text) → IsTrue one ↔ IsLower (get_or text i 0)
+    → IsTrue (old && one) ↔ All IsLower (take (i + 1) text)
+lower_more text i old one lt so_far here = (
+  λ h.
+      let parts = and_parts old one h in
+      All-more IsLower text i 0 lt (so_far.0 parts.0) (here.0 parts.1),
+  λ all.
+      let parts = All-pop IsLower (take (i + 1) text) (take i text) (Some (get_or text i 0)) (take_more text i 0 lt) all in
+      rw (so_far.1 parts.0, here.1 parts.1) refl,
+)

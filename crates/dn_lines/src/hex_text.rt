@@ -13,16 +13,22 @@ use std::alloc::Global;
 
 const DIGITS: &[u8; 16] = b"0123456789abcdef";
 
+/// Whether it is none of the letters `A` to `F`.
+fn is_lower_byte(byte: u8) -> bool
+    ensures { IsTrue result ↔ IsLower byte }
+{
+    byte < b'A' || b'F' < byte
+}
+
 /// Whether there are no letters `A` to `F`.
 fn is_lower(text: &[u8]) -> bool
     ensures { IsTrue result ↔ All IsLower text.now }
 {
+    let mut lower = true;
     for b in text {
-        if (b'A'..=b'F').contains(b) {
-            return false;
-        }
+        lower &= is_lower_byte(*b);
     }
-    true
+    lower
 }
 
 /// The bytes that a text spells: two lower-case hex digits each, and `-` for none.

@@ -6,3 +6,4 @@ pub mod Script
 pub mod Spelled
 pub mod Plain
 pub mod Parsed
+pub mod LateKinds

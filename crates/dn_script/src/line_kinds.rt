@@ -4,6 +4,7 @@ ghost use Rattle.std.specs.Prelude.{◌≡◌};
 ghost use Rattle.dn_script.specs.Judged.{seen_as};
 ghost use Rattle.dn_script.specs.Row.{Tells};
 ghost use Rattle.dn_script.specs.Script.{bare, opening_kinds, plain_kinds, group_kinds, read_kind};
+ghost use Rattle.dn_script.specs.LateKinds.{late_kinds};
 
 use crate::fields::expect;
 use crate::flaw::LineFault;
@@ -78,6 +79,51 @@ pub fn behind_plain(
     Err(LineFault::Bad(Cause::Order))
 }
 
+/// The same of the words from `accuse` on.
+fn behind_group_late(
+    alloc: Global,
+    group: GroupView,
+    word: &[u8],
+    words: &mut Words,
+) -> Result<ScriptLine, LineFault>
+    ensures { Tells (λ x. x) result (read_kind (late_kinds (seen_as group.entry)) word.now words.old) }
+{
+    if word == b"accuse".as_slice() {
+        return accuse(group, words);
+    }
+    if word == b"judge".as_slice() {
+        return judge(words);
+    }
+    if word == b"race".as_slice() {
+        return race(alloc, group, words);
+    }
+    if word == b"live".as_slice() {
+        return live(words);
+    }
+    if word == b"twist".as_slice() {
+        return twist(group, words);
+    }
+    if word == b"inject".as_slice() {
+        return inject(alloc, group, words);
+    }
+    if word == b"speak".as_slice() {
+        return speak(alloc, group, words);
+    }
+    if word == b"replay".as_slice() {
+        return replay(group, words);
+    }
+    if word == b"lure".as_slice() {
+        return lure(group, words);
+    }
+    if word == b"complete".as_slice() {
+        return complete(group, words);
+    }
+    if word == b"end".as_slice() {
+        return end(words);
+    }
+    Err(LineFault::Bad(Cause::Order))
+}
+
 /// A line of this word behind the first of a group script.
 pub fn behind_group(
     alloc: Global,
@@ -123,38 +169,5 @@ pub fn behind_group(
     if word == b"leave".as_slice() {
         return leave(group, words);
     }
-    if word == b"accuse".as_slice() {
-        return accuse(group, words);
-    }
-    if word == b"judge".as_slice() {
-        return judge(words);
-    }
-    if word == b"race".as_slice() {
-        return race(alloc, group, words);
-    }
-    if word == b"live".as_slice() {
-        return live(words);
-    }
-    if word == b"twist".as_slice() {
-        return twist(group, words);
-    }
-    if word == b"inject".as_slice() {
-        return inject(alloc, group, words);
-    }
-    if word == b"speak".as_slice() {
-        return speak(alloc, group, words);
-    }
-    if word == b"replay".as_slice() {
-        return replay(group, words);
-    }
-    if word == b"lure".as_slice() {
-        return lure(group, words);
-    }
-    if word == b"complete".as_slice() {
-        return complete(group, words);
-    }
-    if word == b"end".as_slice() {
-        return end(words);
-    }
-    Err(LineFault::Bad(Cause::Order))
+    behind_group_late(alloc, group, word, words)
 }

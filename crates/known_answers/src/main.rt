@@ -16,6 +16,7 @@ mod lms;
 mod memory;
 mod pad;
 mod record;
+mod report;
 mod roster;
 mod window;
 
@@ -43,6 +44,7 @@ fn passes(alloc: Global, group: &mut Option<Roster>, line: &str) -> Result<bool>
         "block" | "read" => block::passes(alloc, word, rest),
         "key" | "sig" | "no" | "lms" => lms::passes(alloc, word, rest),
         "statement" | "envelope" | "payload" => record::passes(alloc, word, rest),
+        "report" => report::passes(alloc, line),
         "dealt" => dealing::passes(alloc, rest),
         "roster" | "roster2" => {
             *group = None;
