@@ -1,0 +1,8 @@
+use Rattle.std.proofs.Common.{◌≡◌, map, take}
+use Rattle.dn_bits.specs.Bits.{bit}
+use Rattle.dn_cert.specs.Evidence.{shown_bit}
+use Rattle.dn_trace.specs.Bit.{xor_all}
+use Rattle.dn_trace.proofs.openings.ciphers_at.Given as goal
+
+abbrev pub invariant-loop-x : goal.invariant-loop-x
+invariant-loop-x l = l.sum ≡ xor_all (map (λ c. bit c.cipher l.k) (take l.x-index l.shown))
