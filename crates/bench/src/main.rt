@@ -8,6 +8,7 @@ mod deal;
 mod lms;
 mod pads;
 mod records;
+mod verdicts;
 
 use anyhow::{Context, Result, bail};
 use dn_roster::GroupSpec;
@@ -66,6 +67,13 @@ fn measure(rt: &HostRuntime, words: &[String]) -> Result<String> {
             number(words, 3)?,
         ),
         "deal" => deal::line(alloc, group(words)?),
+        "verdicts" => verdicts::line(
+            rt,
+            alloc,
+            number(words, 1)?,
+            number(words, 2)?,
+            number(words, 3)?,
+        ),
         name => bail!("no measure {name:?}"),
     }
 }

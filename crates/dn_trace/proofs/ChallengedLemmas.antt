@@ -14,7 +14,7 @@ use Rattle.dn_cert.specs.Evidence.{shown_bit}
 use Rattle.dn_cert.specs.Trim.{given_to}
 use Rattle.dn_cert.proofs.Parts.{parts_rows}
 use Rattle.dn_trace.specs.declared.openings.Opening.{Opening}
-use Rattle.dn_trace.specs.Bit.{xor_all}
+use Rattle.dn_bits.specs.XorAll.{xor_all}
 use Rattle.dn_trace.specs.Trial.{Trial, CanJudge, servers_of, round_of}
 use Rattle.dn_trace.specs.Reasons.{IsRight, Shows, Signed, row_of}
 use Rattle.dn_trace.specs.Challenged.{NamesNone, IsOpened, IsChallenged}

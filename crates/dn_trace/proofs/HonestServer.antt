@@ -22,12 +22,12 @@ use Rattle.dn_cert.specs.Evidence.{shown_bit}
 use Rattle.dn_cert.specs.Signed.{EntryVerifies}
 use Rattle.dn_trace.specs.declared.fault.Fault.{Fault}
 use Rattle.dn_trace.specs.declared.fault.Fault.TheVariants as faults
-use Rattle.dn_trace.specs.Bit.{xor_all}
+use Rattle.dn_bits.specs.XorAll.{xor_all}
 use Rattle.dn_trace.specs.Trial.{Trial, Heard, round_of, servers_of}
 use Rattle.dn_trace.specs.Reasons.{IsTwice, HasFalseEntry, HasFalseCommit, ShowsWrong, HasFalseSum, IsRebutted, HasFalseOutput, IsRight, Shows, Signed, summed}
 use Rattle.dn_trace.specs.Verdict.{ServerHas}
 use Rattle.dn_trace.specs.Honest.{Seeds, IsHonestServer, AreServersSeeds, AreRevealed}
-use Rattle.dn_trace.proofs.XorLemmas.{bit-xor, bit-sum, length-sum}
+use Rattle.dn_bits.proofs.BitLemmas.{bit-xor, bit-sum, length-sum_all}
 use Rattle.dn_trace.proofs.Doubt.{of_all_below}
 use Rattle.dn_trace.proofs.HeardLemmas.{first_shows, rebuttal_given}
 
@@ -83,7 +83,7 @@ module _ (trial : Trial) (j : ℕ) (seeds : Seeds) (signed : List Statement) (ho
       ∙ map-same (λ l. bit (pad_of (seeds l.client.0) (round_of trial).0 n) trial.k) (λ l. keystream_bit (seeds l.client.0) (round_of trial).0 trial.k) trial.body.listed
       (λ k d lt. bit-pad_of (seeds (get_or trial.body.listed k d).client.0) (round_of trial).0 n trial.k honest.within)) in
       ap (λ x. bit x trial.k) honest.made.sum
-      ∙ bit-xor (sum_bits n pads) (sum_bits n ciphers) trial.k (length-sum n pads pads_long ∙ sym (length-sum n ciphers ciphers_long))
+      ∙ bit-xor (sum_bits n pads) (sum_bits n ciphers) trial.k (length-sum_all n pads pads_long ∙ sym (length-sum_all n ciphers ciphers_long))
       ∙ (λ i. xor ((bit-sum n pads trial.k pads_long ∙ pad_bits) i)
       ((bit-sum n ciphers trial.k ciphers_long ∙ ap xor_all (map-map (λ x. bit x trial.k) (λ c. c.cipher) honest.held)) i))
 

@@ -21,3 +21,4 @@ pub mod Marking
 pub mod Differing
 pub mod ChallengedLemmas
 pub mod EnteredLemmas
+pub mod AnswerLemmas

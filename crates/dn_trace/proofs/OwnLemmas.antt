@@ -25,7 +25,7 @@ use Rattle.dn_trace.specs.Reasons.{IsTwice, HasFalseEntry, HasFalseCommit, Shows
 use Rattle.dn_trace.specs.Verdict.{ServerHas, reason}
 use Rattle.dn_trace.specs.Evidence.{IsOpening, IsSumBelow}
 use Rattle.dn_trace.proofs.HeardLemmas.{first_shows}
-use Rattle.dn_trace.proofs.XorLemmas.{length-sum}
+use Rattle.dn_bits.proofs.BitLemmas.{length-sum_all}
 
 -- a server's statement that isn't pad bits is heard where it is given
 pub server_given : (trial : Trial) (j : ℕ) (s : Statement) → ((r : Round) (k : ℕ) (pad : List Bool) → ¬ (s ≡ kinds.PadBits r k pad)) → Heard trial (server j) s → IsGiven trial (server j) s
@@ -147,7 +147,7 @@ module _ (trial : Trial) where
   }
 
   pub sum_long : (j : ℕ) (sum : List Bool) → IsSumBelow trial j sum → length sum ≡ bits_of trial.layout
-  sum_long j sum below = ap length below.is ∙ length-sum (bits_of trial.layout) below.shown below.long
+  sum_long j sum below = ap length below.is ∙ length-sum_all (bits_of trial.layout) below.shown below.long
 
   pub sum_more : (j : ℕ) (sum s : List Bool) → IsSumBelow trial j sum → IsFirstShown trial j s → ¬ ShowsWrong trial j → length s ≡ length sum → IsSumBelow trial (j + 1) (xor_bits sum s)
   sum_more j sum s below first right long =

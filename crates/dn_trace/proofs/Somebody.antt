@@ -16,12 +16,13 @@ use Rattle.dn_cert.specs.Trim.{given_to}
 use Rattle.dn_cert.proofs.Parts.{parts_rows}
 use Rattle.dn_trace.specs.declared.fault.Fault.{Fault}
 use Rattle.dn_trace.specs.declared.fault.Fault.TheVariants as faults
-use Rattle.dn_trace.specs.Bit.{xor_all}
+use Rattle.dn_bits.specs.XorAll.{xor_all}
 use Rattle.dn_trace.specs.Trial.{Trial, servers_of, round_of}
 use Rattle.dn_trace.specs.Reasons.{IsRight, Shows, Signed, IsFirstShown, row_of, summed, Rebuts}
 use Rattle.dn_trace.specs.Challenged.{NamesNone, IsOpened, IsChallenged}
 use Rattle.dn_trace.specs.Verdict.{Has, ServerHas, ClientHas, IsSilent, Answers, Concedes, IsVerdict, IsHeld}
-use Rattle.dn_trace.proofs.XorLemmas.{xor_all-of_xor, xor_all-swap, xor_all-parts, xor_all-same_below, some_true, differ_from_xor, bit-sum}
+use Rattle.dn_bits.proofs.BitLemmas.{bit-sum}
+use Rattle.dn_trace.proofs.XorLemmas.{xor_all-of_xor, xor_all-swap, xor_all-parts, xor_all-same_below, some_true, differ_from_xor}
 use Rattle.dn_trace.proofs.Doubt.{of_all_below, chosen, chosen_is}
 use Rattle.dn_trace.proofs.HeardLemmas.{first_shown}
 

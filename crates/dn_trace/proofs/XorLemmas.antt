@@ -6,12 +6,10 @@ use Rattle.std.proofs.lemmas.Bool.{cases_lt, cases_Bool, eq-eqb, ne_eqb, false�
 use Rattle.std.proofs.lemmas.List.{map-append, take_more, take_all}
 use Rattle.std.proofs.lemmas.List.Elements.{All-head, All-tail}
 use Rattle.std.proofs.lemmas.List.FromFn.{map-range_with_len_more}
-use Rattle.dn_bits.specs.Bits.{xor, xor_bits, zeros, sum_bits, bit, below}
-use Rattle.dn_bits.proofs.SumLemmas.{length-xor}
-use Rattle.dn_bits.proofs.WordLemmas.{length-zeros}
+use Rattle.dn_bits.specs.Bits.{xor, below}
 use Rattle.dn_records.specs.declared.body.Listed.{Listed}
 use Rattle.dn_cert.specs.Trim.{given_to}
-use Rattle.dn_trace.specs.Bit.{xor_all}
+use Rattle.dn_bits.specs.XorAll.{xor_all}
 
 pub xor_false : (a : Bool) → xor a false ≡ a
 xor_false true = refl
@@ -137,31 +135,6 @@ xor_all-parts f listed m all =
     ∙ xor_all-swap (λ l j. cond (eqb l.server.0 j) (f l) false) listed (below m)
     ∙ xor_all-same_below (λ j. xor_all (map (λ l. cond (eqb l.server.0 j) (f l) false) listed)) (λ j. xor_all (map f (given_to listed j))) m
     (λ j lt. sym (xor_all-filter (λ l. eqb l.server.0 j) f listed))
-
--- a bit of a sum of strings is the sum of the strings' bits
-pub bit-xor : (x y : List Bool) (k : ℕ) → length x ≡ length y → bit (xor_bits x y) k ≡ xor (bit x k) (bit y k)
-bit-xor [] [] k e = refl
-bit-xor [] (b ∷ y) k e = absurd (omega arith)
-bit-xor (a ∷ x) [] k e = absurd (omega arith)
-bit-xor (a ∷ x) (b ∷ y) zero e = refl
-bit-xor (a ∷ x) (b ∷ y) (suc k) e = bit-xor x y k (omega arith)
-
-pub bit-zeros : (n k : ℕ) → bit (zeros n) k ≡ false
-bit-zeros zero k = refl
-bit-zeros (suc n) zero = refl
-bit-zeros (suc n) (suc k) = bit-zeros n k
-
-pub length-sum : (n : ℕ) (xs : List (List Bool)) → All (λ x. length x ≡ n) xs → length (sum_bits n xs) ≡ n
-length-sum n [] all = length-zeros n
-length-sum n (x ∷ xs) all =
-    length-xor x (sum_bits n xs) n (All-head (λ (y : List Bool). length y ≡ n) x xs all) (length-sum n xs (All-tail (λ (y : List Bool). length y ≡ n) x xs all))
-
-pub bit-sum : (n : ℕ) (xs : List (List Bool)) (k : ℕ) → All (λ x. length x ≡ n) xs → bit (sum_bits n xs) k ≡ xor_all (map (λ x. bit x k) xs)
-bit-sum n [] k all = bit-zeros n k
-bit-sum n (x ∷ xs) k all =
-    let rest = All-tail (λ (y : List Bool). length y ≡ n) x xs all in
-    bit-xor x (sum_bits n xs) k (All-head (λ (y : List Bool). length y ≡ n) x xs all ∙ sym (length-sum n xs rest))
-    ∙ ap (xor (bit x k)) (bit-sum n xs k rest)
 
 -- a sum with one element more
 pub xor_all-take_more : {X : Type 0} (f : X → Bool) (xs : List X) (i : ℕ) (d : X) → i < length xs

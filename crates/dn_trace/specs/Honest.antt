@@ -93,3 +93,18 @@ pub record IsHonestClient (trial : Trial) (i : ℕ) (seeds : Seeds) (signed : Li
   pub rebuttals : (r : Round) (k : ℕ) (x : ServerId) (seed envelope : List ℕ) → Contains signed (kinds.Rebuttal r k x seed envelope)
       → IsTrueRebuttal trial i seeds r k x seed envelope
   pub concedes : (r : Round) (k : ℕ) → ¬ Contains signed (kinds.Concede r k)
+
+-- Server j keeps its discipline: it signed honestly, the roster commits to its seeds, and its servers revealed what the body tells.
+pub record KeepsServersDiscipline (trial : Trial) (j : ℕ) : Type 0 where
+  pub seeds : Seeds
+  pub signed : List Statement
+  pub revealed : List (List Bool)
+  pub honest : IsHonestServer trial j seeds signed
+  pub committed : AreServersSeeds trial j seeds
+  pub outcome : AreRevealed trial revealed
+
+-- client i keeps its discipline
+pub record KeepsClientsDiscipline (trial : Trial) (i : ℕ) : Type 0 where
+  pub seeds : Seeds
+  pub signed : List Statement
+  pub honest : IsHonestClient trial i seeds signed

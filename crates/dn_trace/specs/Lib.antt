@@ -1,4 +1,3 @@
-pub mod Bit
 pub mod Trial
 pub mod Reasons
 pub mod Challenged

@@ -4,7 +4,7 @@ use Rattle.dn_bits.specs.Bits.{bit}
 use Rattle.dn_records.specs.declared.shown.ShownCipher.{ShownCipher}
 use Rattle.dn_cert.specs.Evidence.{shown_bit}
 use Rattle.dn_trace.specs.declared.openings.Opening.{Opening}
-use Rattle.dn_trace.specs.Bit.{xor_all}
+use Rattle.dn_bits.specs.XorAll.{xor_all}
 use Rattle.dn_trace.specs.Trial.{Trial, servers_of}
 use Rattle.dn_trace.specs.Evidence.{IsOpening}
 

@@ -20,7 +20,7 @@ use Rattle.dn_seal.specs.Said.{SaidView}
 use Rattle.dn_cert.specs.Evidence.{shown_bit, IsGood}
 use Rattle.dn_cert.specs.Signed.{EntryVerifies}
 use Rattle.dn_cert.specs.Trim.{given_to}
-use Rattle.dn_trace.specs.Bit.{xor_all}
+use Rattle.dn_bits.specs.XorAll.{xor_all}
 use Rattle.dn_trace.specs.Trial.{Trial, Heard, round_of, servers_of}
 
 -- the place is one of the judged round, and of pad bits, of the judged place too

@@ -11,6 +11,9 @@ use Rattle.dn_records.specs.declared.inventory.Entry.{Entry}
 use Rattle.dn_roster.specs.Roster.{RosterView}
 use Rattle.dn_cert.specs.Evidence.{IsGood}
 use Rattle.dn_cert.specs.Signed.{EntryVerifies}
+use Rattle.dn_trace.specs.declared.answers.Answer.{Answer}
+use Rattle.dn_trace.specs.declared.answers.Answer.TheVariants as given
+use Rattle.dn_trace.specs.declared.answers.Answers as found
 use Rattle.dn_trace.specs.declared.entries.Submitted.{Submitted}
 use Rattle.dn_trace.specs.declared.fault.Fault.{Fault}
 use Rattle.dn_trace.specs.declared.fault.Fault.TheVariants as faults
@@ -67,6 +70,29 @@ pub record RebutsFalsely (trial : Trial) (i : ℕ) : Type 0 where
   pub j : ℕ
   pub rebuts : Rebuts trial i s j
   pub bad : ¬ IsGood trial.roster record { 0 = i } s
+
+-- the statement is a rebuttal for the judged round and place, which names server j
+abbrev pub IsRebuttalFor : Trial → Statement → ℕ → Type 0
+IsRebuttalFor trial s j = (seed : List ℕ) × (envelope : List ℕ) × (s ≡ kinds.Rebuttal (round_of trial) trial.k record { 0 = j } seed envelope)
+
+-- what a statement of client i answers for the judged round and place
+abbrev pub IsAnswer : Trial → ℕ → Statement → Option Answer → Type 0
+IsAnswer trial i s None = ((j : ℕ) → ¬ IsRebuttalFor trial s j) × ¬ (s ≡ kinds.Concede (round_of trial) trial.k)
+IsAnswer trial i s (Some (given.Rebuts j)) = IsRebuttalFor trial s j.0 × IsGood trial.roster record { 0 = i } s
+IsAnswer trial i s (Some given.RebutsBadly) = ((j : ℕ) × IsRebuttalFor trial s j) × ¬ IsGood trial.roster record { 0 = i } s
+IsAnswer trial i s (Some given.Concedes) = s ≡ kinds.Concede (round_of trial) trial.k
+
+-- an answer of client i is noted
+abbrev pub IsNotedAnswer : ℕ → Answer → found.Answers → found.Answers → Type 0
+IsNotedAnswer i (given.Rebuts j) old new =
+    (new.is_rebutted.items ≡ slice_set old.is_rebutted.items j.0 true) × (new.rebuts_badly.items ≡ old.rebuts_badly.items)
+    × (new.concedes.items ≡ old.concedes.items) × (new.answers.items ≡ slice_set old.answers.items i true)
+IsNotedAnswer i given.RebutsBadly old new =
+    (new.is_rebutted.items ≡ old.is_rebutted.items) × (new.rebuts_badly.items ≡ slice_set old.rebuts_badly.items i true)
+    × (new.concedes.items ≡ old.concedes.items) × (new.answers.items ≡ slice_set old.answers.items i true)
+IsNotedAnswer i given.Concedes old new =
+    (new.is_rebutted.items ≡ old.is_rebutted.items) × (new.rebuts_badly.items ≡ old.rebuts_badly.items)
+    × (new.concedes.items ≡ slice_set old.concedes.items i true) × (new.answers.items ≡ slice_set old.answers.items i true)
 
 -- what the clients that the body lists answer
 pub record AreAnswers (trial : Trial) (is_rebutted rebuts_badly is_conceded is_answered : List Bool) : Type 0 where

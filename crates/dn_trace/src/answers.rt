@@ -1,16 +1,28 @@
 // What clients answer: rebuttals and concessions.
-ghost use Rattle.std.specs.Prelude.{◌<◌, IfOk};
+ghost use Rattle.std.specs.Prelude.{◌≡◌, ◌<◌, ℕ, false, true, slice_index_or, MatchOption, IfOk, IsTrue};
+ghost use Rattle.dn_seal.specs.Dealt.{client};
 ghost use Rattle.dn_trace.specs.Evidence.{Tells};
 ghost use Rattle.dn_trace.specs.Reasons.{IsListed};
-ghost use Rattle.dn_trace.specs.Tables.{AreAnswers, clients_of};
+ghost use Rattle.dn_trace.specs.Tables.{AreAnswers, IsAnswer, IsNotedAnswer, clients_of};
 
 use crate::case::Case;
 use crate::flags::{mark, no_flags};
 use dn_cert::Rules;
 use dn_memory::NoMemory;
 use dn_records::Statement;
-use dn_wire::{ClientId, SignerId};
+use dn_wire::{ClientId, ServerId, SignerId};
 use std::alloc::Global;
+
+/// What a client answers for the judged round and place.
+#[derive(Clone, Copy, Debug, PartialEq, Eq)]
+pub enum Answer {
+    /// A good rebuttal, which names this server.
+    Rebuts(ServerId),
+    /// A rebuttal that isn't good.
+    RebutsBadly,
+    /// A concession.
+    Concedes,
+}
 
 /// What answers show: of each server whether a good rebuttal names it; of each client whether it made a rebuttal that isn't good, whether
 /// it conceded, and whether it did one or the other at all.
@@ -33,33 +45,58 @@ fn listed(alloc: Global, case: &Case) -> Result<Vec<bool>, NoMemory>
     Ok(flags)
 }
 
-/// Notes what a client that the body lists says.
-fn note<R: Rules>(
+impl Answers {
+    /// Notes what client `i` answers.
+    fn note(&mut self, i: ClientId, answer: Answer)
+        ensures { IsNotedAnswer i.0 answer self.old self.new }
+    {
+        match answer {
+            Answer::Rebuts(j) => mark(&mut self.is_rebutted, j.0),
+            Answer::RebutsBadly => mark(&mut self.rebuts_badly, i.0),
+            Answer::Concedes => mark(&mut self.concedes, i.0),
+        }
+        mark(&mut self.answers, i.0);
+    }
+}
+
+/// The client that the signer is, where its flag is set.
+fn flagged(flags: &[bool], who: SignerId) -> Option<ClientId>
+    ensures { MatchOption result ((i : ℕ) → who ≡ client i → slice_index_or flags.now i false ≡ false) (λ i. (who ≡ client i.0) × (slice_index_or flags.now i.0 false ≡ true)) }
+{
+    let SignerId::Client(i) = who else {
+        return None;
+    };
+    if (i.0 as usize) < flags.len() && flags[i.0 as usize] {
+        Some(i)
+    } else {
+        None
+    }
+}
+
+/// What a statement of client `i` answers for the judged round and place.
+fn answer_in<R: Rules>(
     alloc: Global,
     rules: &R,
     case: &Case,
     i: ClientId,
     s: &Statement,
-    answers: &mut Answers,
-) -> Result<(), NoMemory>
+) -> Result<Option<Answer>, NoMemory>
     requires { i.0 < clients_of case.now }
+    ensures { IfOk result (λ answer. IsAnswer case.now i.0 s.now answer) }
 {
     match s {
         Statement::Rebuttal { r, k, server, .. } if *r == case.round() && *k == case.place() => {
             if rules.rebuttal_good(alloc, case.roster(), i, s)? {
-                mark(&mut answers.is_rebutted, server.0);
+                Ok(Some(Answer::Rebuts(*server)))
             } else {
-                mark(&mut answers.rebuts_badly, i.0);
+                Ok(Some(Answer::RebutsBadly))
             }
-            mark(&mut answers.answers, i.0);
         }
         Statement::Concede { r, k } if *r == case.round() && *k == case.place() => {
-            mark(&mut answers.concedes, i.0);
-            mark(&mut answers.answers, i.0);
+            Ok(Some(Answer::Concedes))
         }
-        _ => {}
+        _ => Ok(None),
     }
-    Ok(())
 }
 
 /// What the clients that the body lists answer for the judged round and place.
@@ -75,9 +112,9 @@ pub fn heard_answers<R: Rules>(alloc: Global, rules: &R, case: &Case) -> Result<
         answers: no_flags(alloc, n)?,
     };
     for said in case.given() {
-        if let SignerId::Client(i) = said.signer() {
-            if (i.0 as usize) < listed.len() && listed[i.0 as usize] {
-                note(alloc, rules, case, i, said.statement(), &mut answers)?;
+        if let Some(i) = flagged(&listed, said.signer()) {
+            if let Some(answer) = answer_in(alloc, rules, case, i, said.statement())? {
+                answers.note(i, answer);
             }
         }
     }

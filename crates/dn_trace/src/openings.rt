@@ -4,7 +4,7 @@ ghost use Rattle.dn_bits.specs.Bits.{xor, bit};
 ghost use Rattle.dn_records.specs.declared.statement.Statement.TheVariants.{PadBits};
 ghost use Rattle.dn_seal.specs.Dealt.{server};
 ghost use Rattle.dn_cert.specs.Evidence.{shown_bit};
-ghost use Rattle.dn_trace.specs.Bit.{xor_all};
+ghost use Rattle.dn_bits.specs.XorAll.{xor_all};
 ghost use Rattle.dn_trace.specs.Trial.{Says};
 ghost use Rattle.dn_trace.specs.Reasons.{summed, Signed};
 ghost use Rattle.dn_trace.specs.Challenged.{IsOpened};

@@ -1,7 +1,7 @@
-//! Tests of verdicts on what a dealt group signs.
+//! Tests of verdicts on what the members of a dealt group sign.
 #![tactic(auto)]
 
 #[cfg(test)]
-mod round;
+mod scene;
 #[cfg(test)]
 mod verdicts;

@@ -5,7 +5,7 @@ use Rattle.dn_records.specs.declared.shown.ShownCipher.{ShownCipher}
 use Rattle.dn_trace.specs.declared.openings.Opening.{Opening}
 use Rattle.dn_bits.specs.Bits.{bit}
 use Rattle.dn_cert.specs.Evidence.{shown_bit}
-use Rattle.dn_trace.specs.Bit.{xor_all}
+use Rattle.dn_bits.specs.XorAll.{xor_all}
 use Rattle.dn_trace.specs.Openings.{Differs}
 use Rattle.dn_trace.specs.Evidence.{Tells}
 use Rattle.dn_trace.specs.Tables.{clients_of}

@@ -2,4 +2,5 @@ use Rattle.dn_trace.proofs.HonestServer.{blameless}
 use Rattle.dn_trace.proofs.laws.no_honest_server_is_blamed.Goals as goal
 
 pub returns : goal.returns
-returns c = λ trial j seeds signed revealed fault honest server_seeds of has. blameless trial j seeds signed honest revealed fault server_seeds of has
+returns c = λ trial j fault keeps has.
+    blameless trial j keeps.seeds keeps.signed keeps.honest keeps.revealed fault keeps.committed keeps.outcome has
