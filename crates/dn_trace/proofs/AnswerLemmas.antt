@@ -1,10 +1,12 @@
 -- What clients answer, from one place to the next.
-use Rattle.std.proofs.Common.{◌≡◌, ℕ, ◌+◌, ◌<◌, Bool, true, List, length, get_or, set, take, Option, Some, None, refl, sym, ap, ◌∙◌, subst, inl, inr}
+use Rattle.std.proofs.Common.{◌≡◌, ℕ, ◌+◌, ◌<◌, Bool, true, false, List, length, get_or, set, take, replicate, Some, None, sym, ap, ◌∙◌, subst, arith, inl, inr}
 use Rattle.std.specs.Prelude.{◌⊎◌}
+use Rattle.std.proofs.lemmas.Bool.{cases_lt, false≢true}
+use Rattle.std.proofs.lemmas.List.{get_or_past}
+use Rattle.std.proofs.lemmas.List.Elements.{All-contains}
 use Rattle.dn_wire.specs.declared.ids.ClientId.{ClientId}
 use Rattle.dn_wire.specs.declared.ids.ServerId.{ServerId}
-use Rattle.dn_wire.specs.declared.ids.SignerId.{SignerId}
-use Rattle.dn_wire.specs.declared.ids.SignerId.TheVariants as signers
+use Rattle.dn_records.specs.declared.body.Listed.{Listed}
 use Rattle.dn_records.specs.declared.statement.Statement.{Statement}
 use Rattle.dn_records.specs.declared.statement.Statement.TheVariants as kinds
 use Rattle.dn_seal.specs.Dealt.{client}
@@ -13,13 +15,13 @@ use Rattle.dn_cert.specs.Evidence.{IsGood}
 use Rattle.dn_trace.specs.declared.answers.Answer.{Answer}
 use Rattle.dn_trace.specs.declared.answers.Answer.TheVariants as answer
 use Rattle.dn_trace.specs.declared.answers.Answers as found
-use Rattle.dn_trace.specs.Trial.{Trial, Says, Heard, IsGiven, round_of, servers_of}
+use Rattle.dn_trace.specs.Trial.{Trial, CanJudge, Says, Heard, IsGiven, round_of, servers_of}
 use Rattle.dn_trace.specs.Reasons.{IsRebutted, IsListed, Rebuts}
 use Rattle.dn_trace.specs.Verdict.{Answers, Concedes}
 use Rattle.dn_trace.specs.Evidence.{Tells}
 use Rattle.dn_trace.specs.Tables.{AreAnswers, IsAnswer, IsNotedAnswer, IsRebuttalFor, RebutsFalsely, clients_of}
 use Rattle.dn_trace.proofs.HeardLemmas.{rebuttal_given}
-use Rattle.dn_trace.proofs.Marking.{tells_mark, tells_same}
+use Rattle.dn_trace.proofs.Marking.{tells_mark, tells_nothing, tells_same}
 use Rattle.dn_trace.proofs.Upto.{upto, said_kept, said_new, said_cases}
 
 -- a concession is heard where it is given
@@ -32,7 +34,7 @@ counted_given : (trial : Trial) (i : ℕ) (s : Statement) (j : ℕ) → Rebuts t
 counted_given trial i s j r = subst (IsGiven trial (client i)) (sym r.is)
     (rebuttal_given trial (client i) (round_of trial) trial.k record { 0 = j } r.seed r.envelope (subst (Heard trial (client i)) r.is r.heard))
 
-client_number : (i j : ℕ) → client i ≡ client j → i ≡ j
+pub client_number : (i j : ℕ) → client i ≡ client j → i ≡ j
 client_number i j e = let same : id i ≡ id j = cc in ap (λ x. x.0) same
   where
     id : ℕ → ClientId
@@ -227,3 +229,35 @@ module _ (trial : Trial) (n : ℕ) (x : SaidView) (lt : n < length trial.given) 
   answers_noted answer.Concedes is noted =
       rw (noted.0, noted.1, noted.2, noted.3)
       (answers_concession trial n x lt at old.is_rebutted.items old.rebuts_badly.items old.concedes.items old.answers.items are a listed by is)
+
+-- nobody answers in nothing
+pub answers_none : (trial : Trial)
+    → AreAnswers (upto trial 0) (replicate (servers_of trial) false) (replicate (clients_of trial) false) (replicate (clients_of trial) false) (replicate (clients_of trial) false)
+answers_none trial = record {
+  rebutted = tells_nothing (servers_of trial) (IsRebutted (upto trial 0)) (λ j r. nothing r.i r.s (counted_given (upto trial 0) r.i r.s j r.rebuts));
+  badly = tells_nothing (clients_of trial) (RebutsFalsely (upto trial 0)) (λ i r. nothing i r.s (counted_given (upto trial 0) i r.s r.j r.rebuts));
+  conceded = tells_nothing (clients_of trial) (λ i. IsListed trial i × Concedes (upto trial 0) i)
+      (λ i c. nothing i (kinds.Concede (round_of trial) trial.k) (concession_given (upto trial 0) i c.1));
+  answered = tells_nothing (clients_of trial) (λ i. IsListed trial i × Answers (upto trial 0) i) (λ i a. elim a.1 [
+    | inl r ↦ nothing i r.0 (counted_given (upto trial 0) i r.0 r.1 r.2)
+    | inr c ↦ nothing i (kinds.Concede (round_of trial) trial.k) (concession_given (upto trial 0) i c)
+  ]);
+}
+  where
+    nothing : (i : ℕ) (s : Statement) → IsGiven (upto trial 0) (client i) s → ⊥
+    nothing i s says = omega (arith, says.1.1)
+
+-- ---- the clients that the body lists
+
+module _ (trial : Trial) (flags : List Bool) (tells : Tells flags (clients_of trial) (IsListed trial)) (i : ℕ) where
+  pub flag_listed : get_or flags i false ≡ true → IsListed trial i
+  flag_listed on =
+      elim (cases_lt i (length flags)) [
+        | inl lt ↦ (tells.each i (omega (arith, tells.size, lt))).0 on
+        | inr ge ↦ absurd (false≢true (sym (get_or_past flags i false ge) ∙ on))
+      ]
+
+  pub flag_unlisted : CanJudge trial → get_or flags i false ≡ false → ¬ IsListed trial i
+  flag_unlisted can off listed =
+      let within = All-contains (λ (l : Listed). (l.client.0 < clients_of trial) × (l.server.0 < servers_of trial)) trial.body.listed listed.0 can.listed listed.1 in
+      false≢true (sym off ∙ (tells.each i (omega (arith, within.0, listed.2))).1 listed)

@@ -1,7 +1,7 @@
 -- A verdict from what is found of each member.
-use Rattle.std.proofs.Common.{◌≡◌, ◌≢◌, ℕ, ◌+◌, ◌<◌, ◌≤◌, Bool, true, false, not, ◌&&◌, List, [], ◌∷◌, ◌++◌, length, get_or, map, refl, sym, ap, ◌∙◌, subst, arith, inl, inr, Option, Some, None}
-use Rattle.std.specs.Prelude.{All, AllPairs, Contains, IsTrue, ◌↔◌}
-use Rattle.std.proofs.lemmas.Bool.{false≢true, iff_false, cases_Bool, and_parts, and_from, not-true}
+use Rattle.std.proofs.Common.{◌≡◌, ◌≢◌, ℕ, ◌+◌, ◌<◌, ◌≤◌, Bool, true, false, not, ◌&&◌, List, ◌++◌, length, get_or, map, refl, sym, ap, ◌∙◌, subst, arith, inl, inr, Option, Some, None}
+use Rattle.std.specs.Prelude.{Contains, IsTrue, ◌↔◌}
+use Rattle.std.proofs.lemmas.Bool.{false≢true, iff_false}
 use Rattle.std.proofs.lemmas.Option.{none-some}
 use Rattle.std.proofs.lemmas.List.{map-append}
 use Rattle.std.proofs.lemmas.List.Elements.{Contains-get_or, Contains-append_left, Contains-append_right, Contains-append_cases}
@@ -16,7 +16,7 @@ use Rattle.dn_trace.specs.Reasons.{IsRebutted, IsListed, HasFalseOutput}
 use Rattle.dn_trace.specs.Challenged.{NamesNone, IsOpened, IsChallenged}
 use Rattle.dn_trace.specs.Verdict.{Has, ServerHas, ClientHas, HasLeast, IsDouble, Answers, Concedes, IsSilent, StandsBefore, IsVerdict, reason}
 use Rattle.dn_trace.specs.Evidence.{Tells, HasOwn}
-use Rattle.dn_trace.specs.Tables.{clients_of, RebutsFalsely, AreAnswers, AreOwn, IsLeast, AreLeast, a_server, a_client, blames_from, members_from, server_fault_of, client_fault_of}
+use Rattle.dn_trace.specs.Tables.{clients_of, RebutsFalsely, AreOwn, IsLeast, AreLeast, a_server, a_client, blames_from, members_from, server_fault_of, client_fault_of}
 use Rattle.dn_trace.proofs.Ordering.{pairs_append, blames_has, blames_are, blames_ordered, members_has, members_are, members_ordered, Contains-from_map}
 use Rattle.dn_trace.proofs.RangeLemmas.{server_in, client_in, challenged_in}
 

@@ -1,11 +1,11 @@
 -- Who is challenged, from what all servers opened.
-use Rattle.std.proofs.Common.{◌≡◌, ◌≢◌, ℕ, ◌+◌, ◌<◌, Bool, true, false, List, [], ◌∷◌, length, get_or, map, refl, sym, ap, ◌∙◌, subst, arith, inl, inr, Option, Some, None}
-use Rattle.std.specs.Prelude.{Contains, slice_get, ◌⊎◌, All}
-use Rattle.std.proofs.lemmas.Bool.{false≢true, cases_Bool, cases_eq}
+use Rattle.std.proofs.Common.{◌≡◌, ℕ, ◌<◌, Bool, true, false, List, [], ◌∷◌, length, get_or, map, refl, sym, ap, ◌∙◌, subst, arith, inl, inr, Option, Some, None}
+use Rattle.std.specs.Prelude.{Contains, slice_get, ◌⊎◌}
+use Rattle.std.proofs.lemmas.Bool.{false≢true, cases_eq}
 use Rattle.std.proofs.lemmas.List.{length-map, get_or-map, same_lists, get_or_default}
 use Rattle.std.proofs.lemmas.List.Elements.{All-contains}
 use Rattle.std.proofs.lemmas.Option.{slice_get-get_or, none-some, same_Some}
-use Rattle.dn_bits.specs.Bits.{bit, bytes_of}
+use Rattle.dn_bits.specs.Bits.{bytes_of}
 use Rattle.dn_hash.specs.Digests.{server_digest_of}
 use Rattle.dn_records.specs.declared.body.Listed.{Listed}
 use Rattle.dn_records.specs.declared.shown.ShownCipher.{ShownCipher}
@@ -16,8 +16,8 @@ use Rattle.dn_cert.proofs.Parts.{parts_rows}
 use Rattle.dn_trace.specs.declared.openings.Opening.{Opening}
 use Rattle.dn_bits.specs.XorAll.{xor_all}
 use Rattle.dn_trace.specs.Trial.{Trial, CanJudge, servers_of, round_of}
-use Rattle.dn_trace.specs.Reasons.{IsRight, Shows, Signed, row_of}
-use Rattle.dn_trace.specs.Challenged.{NamesNone, IsOpened, IsChallenged}
+use Rattle.dn_trace.specs.Reasons.{IsRight, Signed, row_of}
+use Rattle.dn_trace.specs.Challenged.{NamesNone, IsChallenged}
 use Rattle.dn_trace.specs.Evidence.{IsOpening}
 use Rattle.dn_trace.specs.Openings.{AreOpenings, Differs}
 use Rattle.dn_trace.proofs.OwnLemmas.{one_pad, one_shown}

@@ -1,21 +1,14 @@
 -- Clients whose ciphertext differs from what all pads add up to.
-use Rattle.std.proofs.Common.{◌≡◌, ◌≢◌, ℕ, ◌+◌, ◌<◌, ◌≤◌, Bool, true, false, not, List, [], length, get_or, map, take, refl, sym, ap, ◌∙◌, subst, arith, inl, inr, Some, None}
-use Rattle.std.specs.Prelude.{Contains, slice_get}
+use Rattle.std.proofs.Common.{◌≡◌, ◌≢◌, ℕ, Bool, true, false, not, List, map, take, refl, sym}
+use Rattle.std.specs.Prelude.{Contains}
 use Rattle.std.specs.Bool.{beq}
 use Rattle.std.proofs.lemmas.Bool.{false≢true}
-use Rattle.std.proofs.lemmas.List.{length-map, get_or-map, take_all, same_lists}
-use Rattle.std.proofs.lemmas.List.Elements.{All-contains, All-weaker}
-use Rattle.std.proofs.lemmas.Option.{slice_get-get_or, get_or_from_slice_get}
-use Rattle.dn_wire.specs.declared.ids.ClientId.{ClientId}
 use Rattle.dn_bits.specs.Bits.{bit}
 use Rattle.dn_records.specs.declared.shown.ShownCipher.{ShownCipher}
 use Rattle.dn_cert.specs.Evidence.{shown_bit}
-use Rattle.dn_cert.specs.Trim.{given_to}
-use Rattle.dn_cert.proofs.Parts.{parts_rows}
 use Rattle.dn_trace.specs.declared.openings.Opening.{Opening}
 use Rattle.dn_bits.specs.XorAll.{xor_all}
-use Rattle.dn_trace.specs.Trial.{Trial, servers_of, round_of}
-use Rattle.dn_trace.specs.Openings.{AreOpenings, Differs}
+use Rattle.dn_trace.specs.Trial.{Trial}
 
 -- one of these ciphertexts is of the client, and differs
 pub record DiffersIn (trial : Trial) (openings : List Opening) (shown : List ShownCipher) (i : ℕ) : Type 0 where

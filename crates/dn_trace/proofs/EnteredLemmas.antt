@@ -1,10 +1,9 @@
 -- The submissions in inventories, from one entry to the next, and from one place to the next.
-use Rattle.std.proofs.Common.{◌≡◌, ℕ, ◌+◌, ◌<◌, Bool, true, false, not, eqb, List, [], ◌∷◌, ◌++◌, length, get_or, set, take, refl, sym, ap, ◌∙◌, subst, arith, inl, inr}
-use Rattle.std.specs.Prelude.{All, Contains, ◌⊎◌}
+use Rattle.std.proofs.Common.{◌≡◌, ℕ, ◌+◌, ◌<◌, Bool, true, false, not, eqb, List, [], ◌∷◌, ◌++◌, length, get_or, set, take, refl, sym, ap, ◌∙◌, subst, inl, inr}
+use Rattle.std.specs.Prelude.{Contains, ◌⊎◌}
 use Rattle.std.proofs.lemmas.Bool.{false≢true, cases_Bool, eqb-true, eq-eqb}
 use Rattle.std.proofs.lemmas.List.{get_or_default}
-use Rattle.std.proofs.lemmas.List.Elements.{All-push, All-weaker, Contains-append_left, Contains-push, Contains-push_cases}
-use Rattle.dn_wire.specs.declared.ids.ClientId.{ClientId}
+use Rattle.std.proofs.lemmas.List.Elements.{All-weaker, Contains-append_left, Contains-push, Contains-push_cases}
 use Rattle.dn_wire.specs.declared.ids.Round.{Round}
 use Rattle.dn_wire.specs.declared.ids.ServerId.{ServerId}
 use Rattle.dn_wire.specs.declared.ids.SignerId.{SignerId}
@@ -20,7 +19,6 @@ use Rattle.dn_cert.specs.Signed.{EntryVerifies}
 use Rattle.dn_trace.specs.declared.entries.Submitted.{Submitted}
 use Rattle.dn_trace.specs.Trial.{Trial, Says, Heard, IsGiven, IsEntered, round_of, servers_of}
 use Rattle.dn_trace.specs.Reasons.{HasFalseEntry}
-use Rattle.dn_trace.specs.Evidence.{Tells}
 use Rattle.dn_trace.specs.Tables.{AreEntered, AreEntries, AreAdded, TellsAllVerify, submitted_of}
 use Rattle.dn_trace.proofs.Marking.{tells_mark, tells_same, contained_kept, contained_new, contained_cases}
 use Rattle.dn_trace.proofs.Upto.{upto, said_kept, said_new, said_cases}

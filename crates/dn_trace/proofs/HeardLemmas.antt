@@ -1,6 +1,6 @@
 -- What is heard of servers and clients.
-use Rattle.std.proofs.Common.{◌≡◌, ℕ, zero, suc, ◌+◌, ◌<◌, Bool, true, false, cond, eqb, List, [], ◌∷◌, length, get_or, refl, sym, ap, ◌∙◌, subst, arith, inl, inr}
-use Rattle.std.specs.Prelude.{All, Contains, find, ◌&&◌, Option, Some, None}
+use Rattle.std.proofs.Common.{◌≡◌, ℕ, zero, suc, ◌<◌, Bool, true, cond, List, [], ◌∷◌, length, get_or, refl, sym, ap, ◌∙◌, arith, inl, inr}
+use Rattle.std.specs.Prelude.{Contains, find, ◌&&◌, Some, None}
 use Rattle.std.proofs.lemmas.Bool.{eqb-true, eq-eqb, false≢true, cases_Bool, and_parts}
 use Rattle.std.proofs.lemmas.Option.{same_Some, none-some}
 use Rattle.dn_wire.specs.declared.ids.Round.{Round}
@@ -10,7 +10,7 @@ use Rattle.dn_wire.specs.declared.ids.SignerId.TheVariants as signers
 use Rattle.dn_records.specs.declared.shown.ShownCipher.{ShownCipher}
 use Rattle.dn_records.specs.declared.statement.Statement.{Statement}
 use Rattle.dn_records.specs.declared.statement.Statement.TheVariants as kinds
-use Rattle.dn_seal.specs.Dealt.{client, server}
+use Rattle.dn_seal.specs.Dealt.{server}
 use Rattle.dn_seal.specs.Said.{SaidView}
 use Rattle.dn_trace.specs.Trial.{Trial, Heard, IsGiven, round_of}
 use Rattle.dn_trace.specs.Reasons.{Shows, IsFirstShown, is_server, is_shown}

@@ -1,30 +1,28 @@
 -- An honest server has no fault.
-use Rattle.std.proofs.Common.{◌≡◌, ℕ, ◌+◌, ◌<◌, Bool, false, List, [], ◌∷◌, map, length, get_or, refl, sym, ap, ◌∙◌, subst, arith, inl, inr}
-use Rattle.std.specs.Prelude.{All, Contains, Some}
-use Rattle.std.proofs.lemmas.List.{same_lists, length-map, get_or_default}
+use Rattle.std.proofs.Common.{◌≡◌, ℕ, ◌<◌, Bool, false, List, [], ◌∷◌, map, length, get_or, refl, sym, ap, ◌∙◌, subst, arith, inl, inr}
+use Rattle.std.specs.Prelude.{All, Some}
+use Rattle.std.proofs.lemmas.List.{same_lists, get_or_default}
 use Rattle.std.proofs.lemmas.List.Elements.{All-contains, All-map, All-head, All-tail, All-get_or}
 use Rattle.std.proofs.lemmas.List.FromFn.{length-map-range_with_len, get_or-map-range_with_len}
 use Rattle.std.proofs.lemmas.Option.{same_Some}
 use Rattle.dn_wire.specs.declared.ids.SignerId.TheVariants.{Server}
-use Rattle.dn_bits.specs.Bits.{xor, bit, bytes_of, first_bits, sum_bits, xor_bits, below}
+use Rattle.dn_bits.specs.Bits.{xor, bit, bytes_of, first_bits, sum_bits}
 use Rattle.dn_bits.proofs.ByteLemmas.{bits_again}
 use Rattle.dn_hash.specs.Digests.{seed_commitment_of, server_digest_of}
 use Rattle.dn_pads.specs.Pads.{keystream_bit, pad_of}
 use Rattle.dn_records.specs.Place.{commit_of}
-use Rattle.dn_records.specs.declared.shown.ShownCipher.{ShownCipher}
 use Rattle.dn_records.specs.declared.statement.Statement.{Statement}
 use Rattle.dn_records.specs.declared.statement.Statement.TheVariants as kinds
 use Rattle.dn_layout.specs.Layout.{bits_of}
 use Rattle.dn_roster.specs.Roster.{commitment_of}
 use Rattle.dn_seal.specs.Dealt.{client, server}
-use Rattle.dn_seal.specs.Said.{Unseals}
 use Rattle.dn_cert.specs.Evidence.{shown_bit}
 use Rattle.dn_cert.specs.Signed.{EntryVerifies}
 use Rattle.dn_trace.specs.declared.fault.Fault.{Fault}
 use Rattle.dn_trace.specs.declared.fault.Fault.TheVariants as faults
 use Rattle.dn_bits.specs.XorAll.{xor_all}
 use Rattle.dn_trace.specs.Trial.{Trial, Heard, round_of, servers_of}
-use Rattle.dn_trace.specs.Reasons.{IsTwice, HasFalseEntry, HasFalseCommit, ShowsWrong, HasFalseSum, IsRebutted, HasFalseOutput, IsRight, Shows, Signed, summed}
+use Rattle.dn_trace.specs.Reasons.{IsTwice, HasFalseEntry, HasFalseCommit, ShowsWrong, HasFalseSum, IsRebutted, HasFalseOutput, IsRight}
 use Rattle.dn_trace.specs.Verdict.{ServerHas}
 use Rattle.dn_trace.specs.Honest.{Seeds, IsHonestServer, AreServersSeeds, AreRevealed}
 use Rattle.dn_bits.proofs.BitLemmas.{bit-xor, bit-sum, length-sum_all}

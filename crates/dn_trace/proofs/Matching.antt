@@ -1,8 +1,8 @@
 -- Rows that are met one by one in a list of ciphertexts.
-use Rattle.std.proofs.Common.{◌≡◌, ℕ, ◌+◌, ◌<◌, ◌≤◌, Bool, true, false, cond, List, [], ◌∷◌, ◌++◌, length, map, get_or, take, drop, refl, sym, ap, ◌∙◌, subst, arith, inl, inr, length-append}
-use Rattle.std.specs.Prelude.{All, filter, ◌⊎◌}
+use Rattle.std.proofs.Common.{◌≡◌, ℕ, ◌+◌, ◌<◌, ◌≤◌, Bool, true, false, cond, List, [], ◌∷◌, ◌++◌, length, map, get_or, take, drop, refl, sym, ap, ◌∙◌, subst, arith, length-append}
+use Rattle.std.specs.Prelude.{All, filter}
 use Rattle.std.proofs.lemmas.List.{take_more, take_all, take-append-drop, length-map, length-take-le, get_or-map, map-append, append_assoc, append-nil}
-use Rattle.std.proofs.lemmas.List.Elements.{filter-append, filter_more, All-more, All-get_or, All-take}
+use Rattle.std.proofs.lemmas.List.Elements.{filter-append, filter_more, All-more, All-get_or}
 
 module _ {X Y : Type 0} (f : X → Y) (Ok : X → Type 0) (p : Y → Bool) (rows : List Y) (xs : List X) where
   -- the first `at` elements are as the first `i` rows want

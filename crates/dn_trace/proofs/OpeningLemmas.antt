@@ -1,5 +1,5 @@
 -- Pad bits that a server signed, among what was given and what was carried.
-use Rattle.std.proofs.Common.{◌≡◌, ℕ, Bool, List, Option, Some, None, refl, sym, ap, ◌∙◌, subst, inl, inr}
+use Rattle.std.proofs.Common.{◌≡◌, ℕ, Bool, List, Option, Some, None, sym, ◌∙◌, subst, inl, inr}
 use Rattle.std.specs.Prelude.{MatchOption, Contains}
 use Rattle.std.proofs.lemmas.List.Elements.{All-contains}
 use Rattle.dn_wire.specs.declared.ids.Round.{Round}

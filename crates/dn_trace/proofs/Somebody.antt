@@ -1,26 +1,24 @@
 -- A verdict that leaves nobody silent blames somebody.
-use Rattle.std.proofs.Common.{◌≡◌, ℕ, ◌+◌, ◌<◌, ◌≤◌, Bool, true, List, [], ◌∷◌, map, length, get_or, refl, sym, ap, ◌∙◌, subst, arith, inl, inr}
+use Rattle.std.proofs.Common.{◌≡◌, ℕ, ◌<◌, Bool, true, List, [], ◌∷◌, map, length, refl, sym, ap, ◌∙◌, subst, arith, inl, inr}
 use Rattle.std.specs.Prelude.{All, Contains}
 use Rattle.std.proofs.lemmas.List.{get_or-map, length-map}
-use Rattle.std.proofs.lemmas.List.Elements.{All-contains, All-map, Contains-get_or}
+use Rattle.std.proofs.lemmas.List.Elements.{All-contains}
 use Rattle.std.proofs.lemmas.List.FromFn.{length-map-range_with_len, get_or-map-range_with_len, length-range_with_len, get_or-range_with_len}
 use Rattle.dn_wire.specs.declared.ids.Member.{Member}
 use Rattle.dn_wire.specs.declared.ids.Member.TheVariants as members
 use Rattle.dn_bits.specs.Bits.{xor, bit, sum_bits, below}
-use Rattle.dn_records.specs.declared.body.Listed.{Listed}
 use Rattle.dn_records.specs.declared.shown.ShownCipher.{ShownCipher}
-use Rattle.dn_records.specs.declared.statement.Statement.{Statement}
 use Rattle.dn_layout.specs.Layout.{bits_of}
-use Rattle.dn_cert.specs.Evidence.{shown_bit, IsGood}
+use Rattle.dn_cert.specs.Evidence.{shown_bit}
 use Rattle.dn_cert.specs.Trim.{given_to}
 use Rattle.dn_cert.proofs.Parts.{parts_rows}
 use Rattle.dn_trace.specs.declared.fault.Fault.{Fault}
 use Rattle.dn_trace.specs.declared.fault.Fault.TheVariants as faults
 use Rattle.dn_bits.specs.XorAll.{xor_all}
 use Rattle.dn_trace.specs.Trial.{Trial, servers_of, round_of}
-use Rattle.dn_trace.specs.Reasons.{IsRight, Shows, Signed, IsFirstShown, row_of, summed, Rebuts}
+use Rattle.dn_trace.specs.Reasons.{IsRight, Shows, Signed, IsFirstShown, row_of, summed}
 use Rattle.dn_trace.specs.Challenged.{NamesNone, IsOpened, IsChallenged}
-use Rattle.dn_trace.specs.Verdict.{Has, ServerHas, ClientHas, IsSilent, Answers, Concedes, IsVerdict, IsHeld}
+use Rattle.dn_trace.specs.Verdict.{Has, ServerHas, ClientHas, Answers, IsVerdict, IsHeld}
 use Rattle.dn_bits.proofs.BitLemmas.{bit-sum}
 use Rattle.dn_trace.proofs.XorLemmas.{xor_all-of_xor, xor_all-swap, xor_all-parts, xor_all-same_below, some_true, differ_from_xor}
 use Rattle.dn_trace.proofs.Doubt.{of_all_below, chosen, chosen_is}

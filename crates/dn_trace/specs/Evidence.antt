@@ -1,16 +1,14 @@
 -- What `judge` finds in what was said, before it judges.
-use Rattle.std.specs.Prelude.{◌≡◌, ◌<◌, ◌≤◌, ◌↔◌, ◌==◌, ◌&&◌, ◌++◌, ◌+◌, ℕ, Bool, false, List, [], length, slice_index_or, map, Option, Some, None, All, Contains, IsTrue, find, if◌then◌else◌}
+use Rattle.std.specs.Prelude.{◌≡◌, ◌<◌, ◌≤◌, ◌↔◌, ◌==◌, ◌&&◌, ◌+◌, ℕ, Bool, false, List, [], length, slice_index_or, map, Option, Some, None, All, IsTrue, if◌then◌else◌}
 use Rattle.dn_wire.specs.declared.ids.Round.{Round}
 use Rattle.dn_wire.specs.declared.ids.ServerId.{ServerId}
 use Rattle.dn_wire.specs.declared.ids.SignerId.{SignerId}
-use Rattle.dn_records.specs.declared.body.Body.{Body}
 use Rattle.dn_records.specs.declared.shown.ShownCipher.{ShownCipher}
 use Rattle.dn_records.specs.declared.statement.Statement.{Statement}
 use Rattle.dn_records.specs.declared.statement.Statement.TheVariants as kinds
-use Rattle.dn_roster.specs.Roster.{RosterView}
-use Rattle.dn_seal.specs.Dealt.{client, server}
+use Rattle.dn_seal.specs.Dealt.{server}
 use Rattle.dn_seal.specs.Said.{SaidView, Unseals}
-use Rattle.dn_trace.specs.Trial.{Trial, Says, IsCarried, IsEntered, round_of}
+use Rattle.dn_trace.specs.Trial.{Trial, Says, IsCarried, round_of}
 use Rattle.dn_layout.specs.Layout.{bits_of}
 use Rattle.dn_cert.specs.Trim.{given_to}
 use Rattle.dn_trace.specs.Reasons.{is_server, row_of, IsRight, IsFirstShown, Shows, ShowsWrong, Signed}

@@ -4,7 +4,7 @@ use Rattle.dn_wire.specs.declared.ids.ClientId.{ClientId}
 use Rattle.dn_wire.specs.declared.ids.Round.{Round}
 use Rattle.dn_wire.specs.declared.ids.ServerId.{ServerId}
 use Rattle.dn_wire.specs.declared.ids.SignerId.TheVariants.{Server}
-use Rattle.dn_bits.specs.Bits.{bit, bytes_of, sum_bits, xor_bits}
+use Rattle.dn_bits.specs.Bits.{bytes_of, sum_bits, xor_bits}
 use Rattle.dn_hash.specs.Digests.{seed_commitment_of, server_digest_of}
 use Rattle.dn_pads.specs.Pads.{keystream_bit, pad_of}
 use Rattle.dn_records.specs.Place.{Place, place_of}

@@ -1,5 +1,5 @@
 -- What all servers opened.
-use Rattle.std.specs.Prelude.{◌≡◌, ◌≢◌, ◌<◌, ℕ, Bool, List, length, map, slice_get, Some, Contains}
+use Rattle.std.specs.Prelude.{◌≡◌, ◌≢◌, ℕ, List, length, map, slice_get, Some, Contains}
 use Rattle.dn_bits.specs.Bits.{bit}
 use Rattle.dn_records.specs.declared.shown.ShownCipher.{ShownCipher}
 use Rattle.dn_cert.specs.Evidence.{shown_bit}

@@ -1,8 +1,6 @@
 -- The faults of servers, which are seen in what is heard. Each is a reason to blame the server.
-use Rattle.std.specs.Prelude.{◌≡◌, ◌≢◌, ◌<◌, ◌==◌, ◌&&◌, ℕ, Bool, false, List, [], map, length, find, slice_get, slice_index_or, Option, Some, All, Contains}
-use Rattle.dn_wire.specs.declared.ids.ClientId.{ClientId}
+use Rattle.std.specs.Prelude.{◌≡◌, ◌≢◌, ◌<◌, ◌==◌, ◌&&◌, ℕ, Bool, false, List, [], map, length, find, slice_get, slice_index_or, Some, All, Contains}
 use Rattle.dn_wire.specs.declared.ids.Round.{Round}
-use Rattle.dn_wire.specs.declared.ids.ServerId.{ServerId}
 use Rattle.dn_wire.specs.declared.ids.SignerId.{SignerId}
 use Rattle.dn_wire.specs.declared.ids.SignerId.TheVariants as signers
 use Rattle.dn_bits.specs.Bits.{xor, bit, bytes_of, sum_bits}

@@ -1,5 +1,5 @@
 -- Verdicts: who is blamed, and who is silent.
-use Rattle.std.specs.Prelude.{◌≡◌, ◌≢◌, ◌<◌, ◌≤◌, ◌⊎◌, ℕ, List, [], map, All, AllPairs, Contains, length, true}
+use Rattle.std.specs.Prelude.{◌≡◌, ◌≢◌, ◌<◌, ◌≤◌, ◌⊎◌, ℕ, List, map, All, AllPairs, Contains, true}
 use Rattle.dn_wire.specs.declared.ids.ClientId.{ClientId}
 use Rattle.dn_wire.specs.declared.ids.Member.{Member}
 use Rattle.dn_wire.specs.declared.ids.Member.TheVariants as members

@@ -1,10 +1,8 @@
-use Rattle.std.proofs.Common.{◌≡◌, ◌+◌, ◌<◌, List, [], ◌∷◌, ◌++◌, length, get_or, Option, Some, None, sym, ap, ◌∙◌, subst, arith}
+use Rattle.std.proofs.Common.{◌≡◌, ◌<◌, [], ◌∷◌, ◌++◌, length, get_or, None, sym, ap, ◌∙◌, subst, arith}
 use Rattle.std.proofs.lemmas.Grind.{common_steps}
 use Rattle.std.specs.Prelude.{IfSome}
-use Rattle.dn_records.specs.declared.statement.Statement.{Statement}
-use Rattle.dn_seal.specs.Said.{SaidView}
 use Rattle.dn_trace.specs.Evidence.{AreCarried, IsPadIn, HasPadIn}
-use Rattle.dn_trace.proofs.Upto.{upto, upto_all}
+use Rattle.dn_trace.proofs.Upto.{upto_all}
 use Rattle.dn_trace.proofs.CarriedLemmas.{carried_none, carried_some}
 use Rattle.dn_trace.proofs.carried.carried.Goals as goal
 use Rattle.dn_trace.proofs.carried.carried.Goals.{in-Some+in_ok-push, in_default}

@@ -1,10 +1,10 @@
-use Rattle.std.proofs.Common.{◌≡◌, List, Bool, Some, Option, sym, ap, ◌∙◌, subst}
+use Rattle.std.proofs.Common.{◌≡◌, List, Bool, Some, Option, sym, ◌∙◌, subst}
 use Rattle.std.proofs.lemmas.Result.{IfOk-weaker}
 use Rattle.dn_wire.specs.declared.ids.SignerId.{SignerId}
 use Rattle.dn_records.specs.declared.statement.Statement.TheVariants as kinds
 use Rattle.dn_seal.specs.Said.{SaidView, Unseals}
 use Rattle.dn_trace.specs.Trial.{round_of}
-use Rattle.dn_trace.specs.Evidence.{HasPadIn, IsPadIn}
+use Rattle.dn_trace.specs.Evidence.{HasPadIn}
 use Rattle.dn_trace.proofs.carried.pad_bits_of.Goals as goal
 
 pub returns-in-Rebuttal-clause-each : goal.returns-in-Rebuttal-clause-each

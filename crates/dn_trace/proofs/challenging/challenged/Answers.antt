@@ -1,9 +1,7 @@
-use Rattle.std.proofs.Common.{◌≡◌, ◌<◌, ℕ, Bool, true, false, List, length, replicate, Some, None, refl, sym, ap, ◌∙◌, subst, arith}
-use Rattle.std.specs.Prelude.{MatchOption}
+use Rattle.std.proofs.Common.{◌≡◌, ◌<◌, ℕ, false, length, replicate, sym, ap, ◌∙◌, subst, arith}
 use Rattle.std.proofs.lemmas.Bool.{false≢true}
 use Rattle.std.proofs.lemmas.Result.{IfOk-weaker}
 use Rattle.std.proofs.lemmas.List.Elements.{All-contains}
-use Rattle.dn_trace.specs.declared.openings.Opening.{Opening}
 use Rattle.dn_trace.specs.Trial.{servers_of}
 use Rattle.dn_trace.specs.Challenged.{NamesNone, IsOpened, IsChallenged}
 use Rattle.dn_trace.specs.Evidence.{Tells}

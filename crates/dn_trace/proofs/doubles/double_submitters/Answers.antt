@@ -1,11 +1,10 @@
-use Rattle.std.proofs.Common.{◌≡◌, ◌+◌, ◌<◌, List, [], Some, None, length, get_or, take, refl, sym, ap, ◌∙◌, subst, arith, inl, inr}
+use Rattle.std.proofs.Common.{◌≡◌, ◌<◌, [], Some, None, length, get_or, take, sym, ap, ◌∙◌, subst, arith, inl, inr}
 use Rattle.std.proofs.lemmas.Grind.{common_steps}
 use Rattle.std.proofs.lemmas.List.{take_all}
 use Rattle.dn_records.specs.declared.statement.Statement.TheVariants as kinds
 use Rattle.dn_seal.specs.Dealt.{client}
-use Rattle.dn_trace.specs.declared.entries.Submitted.{Submitted}
 use Rattle.dn_trace.specs.Trial.{Says, round_of}
-use Rattle.dn_trace.specs.Tables.{IsNoted, IsSubmission, clients_of}
+use Rattle.dn_trace.specs.Tables.{IsSubmission, clients_of}
 use Rattle.dn_trace.proofs.Tracking.{IsTracked, Own, Made, own_skip, own_noted, made_noted, tracked_same, doubles_told}
 use Rattle.dn_trace.proofs.doubles.double_submitters.Goals as goal
 use Rattle.dn_trace.proofs.doubles.double_submitters.Goals.{in-Client+in-Some, in-Client+in_default-submission, in_default}

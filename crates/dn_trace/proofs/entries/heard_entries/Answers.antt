@@ -1,9 +1,9 @@
-use Rattle.std.proofs.Common.{◌≡◌, ◌+◌, ◌<◌, true, false, List, [], set, length, get_or, take, replicate, refl, sym, ap, ◌∙◌, subst, arith, inl, inr}
+use Rattle.std.proofs.Common.{◌≡◌, ◌+◌, ◌<◌, true, false, set, length, get_or, sym, ap, ◌∙◌, subst, arith}
 use Rattle.std.proofs.lemmas.Grind.{common_steps}
 use Rattle.dn_records.specs.declared.statement.Statement.TheVariants as kinds
 use Rattle.dn_seal.specs.Dealt.{server}
 use Rattle.dn_trace.specs.Trial.{round_of}
-use Rattle.dn_trace.specs.Tables.{AreEntries, AreAdded, TellsAllVerify}
+use Rattle.dn_trace.specs.Tables.{AreEntries}
 use Rattle.dn_trace.proofs.Upto.{upto, upto_all}
 use Rattle.dn_trace.proofs.EnteredLemmas.{entries_skip, entries_all, entries_other, entries_false, same_numbers, other_numbers}
 use Rattle.dn_trace.proofs.entries.heard_entries.Goals as goal

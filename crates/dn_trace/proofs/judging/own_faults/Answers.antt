@@ -1,4 +1,4 @@
-use Rattle.std.proofs.Common.{◌≡◌, ◌+◌, List, ◌++◌, ◌∷◌, [], length, get_or, None, refl, sym, ap, ◌∙◌, subst, length-append}
+use Rattle.std.proofs.Common.{◌+◌, ◌∷◌, [], length, get_or, None, sym, ap, ◌∙◌, subst, length-append}
 use Rattle.dn_trace.specs.Evidence.{HasOwn}
 use Rattle.dn_trace.proofs.Listing.{each_push}
 use Rattle.dn_trace.proofs.judging.own_faults.Goals as goal

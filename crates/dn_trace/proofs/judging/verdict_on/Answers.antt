@@ -1,17 +1,13 @@
-use Rattle.std.proofs.Common.{◌≡◌, ◌≢◌, ℕ, ◌<◌, Bool, true, false, List, ◌++◌, length, get_or, map, not, ◌&&◌, Option, Some, None, refl, sym, ap, ◌∙◌, subst, arith, inl, inr}
+use Rattle.std.proofs.Common.{◌≡◌, ◌≢◌, ℕ, ◌<◌, false, ◌++◌, length, get_or, map, not, ◌&&◌, None, sym, ap, ◌∙◌, subst, arith, inl, inr}
 use Rattle.std.specs.Prelude.{IsTrue, ◌↔◌}
 use Rattle.std.proofs.lemmas.Bool.{false≢true, iff_false, cases_Bool}
 use Rattle.std.proofs.lemmas.Result.{IfOk-weaker}
 use Rattle.std.proofs.lemmas.List.FromFn.{length-map-range_with_len}
 use Rattle.dn_bits.specs.Bits.{below}
-use Rattle.dn_wire.specs.declared.ids.Member.{Member}
-use Rattle.dn_trace.specs.declared.fault.Fault.{Fault}
 use Rattle.dn_trace.specs.Trial.{servers_of}
-use Rattle.dn_trace.specs.Reasons.{HasFalseOutput, IsListed}
-use Rattle.dn_trace.specs.Challenged.{NamesNone, IsOpened}
 use Rattle.dn_trace.specs.Verdict.{IsVerdict, IsSilent}
 use Rattle.dn_trace.specs.Evidence.{Tells}
-use Rattle.dn_trace.specs.Tables.{AreOwn, AreLeast, clients_of, a_server, a_client, blames_from, members_from, server_fault_of, client_fault_of}
+use Rattle.dn_trace.specs.Tables.{AreLeast, clients_of, a_server, a_client, blames_from, members_from, server_fault_of, client_fault_of}
 use Rattle.dn_trace.proofs.Assembly.{verdict, servers_least, clients_least, unanswering_tells, names_none, names_some}
 use Rattle.dn_trace.proofs.judging.verdict_on.Goals as goal
 use Rattle.dn_trace.proofs.judging.verdict_on.Goals.{then-false_output, else-false_output}

@@ -1,4 +1,4 @@
-use Rattle.std.proofs.Common.{List, [], sym, ap, ◌∙◌}
+use Rattle.std.proofs.Common.{[], sym, ◌∙◌}
 use Rattle.dn_bits.specs.Bits.{xor}
 use Rattle.dn_records.specs.declared.body.Listed.{Listed}
 use Rattle.dn_cert.specs.Evidence.{shown_bit}

@@ -1,5 +1,4 @@
 use Rattle.std.proofs.Common.{◌≡◌, map, take}
-use Rattle.dn_bits.specs.Bits.{bit}
 use Rattle.dn_cert.specs.Evidence.{shown_bit}
 use Rattle.dn_bits.specs.XorAll.{xor_all}
 use Rattle.dn_trace.proofs.openings.pads_of_rows.Given as goal

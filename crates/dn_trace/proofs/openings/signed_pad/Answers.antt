@@ -1,7 +1,7 @@
 use Rattle.std.proofs.Common.{List, Bool, refl, sym}
 use Rattle.dn_records.specs.declared.statement.Statement.TheVariants.{PadBits}
 use Rattle.dn_seal.specs.Dealt.{server}
-use Rattle.dn_trace.specs.Trial.{Says, round_of}
+use Rattle.dn_trace.specs.Trial.{Says}
 use Rattle.dn_trace.specs.Reasons.{Signed}
 use Rattle.dn_trace.proofs.OpeningLemmas.{match_both, signed_nowhere, signed_carried, says_here, says_there}
 use Rattle.dn_trace.proofs.openings.signed_pad.Goals as goal

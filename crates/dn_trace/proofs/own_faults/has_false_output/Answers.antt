@@ -1,5 +1,5 @@
-use Rattle.std.proofs.Common.{◌≡◌, ◌+◌, ◌<◌, length, List, [], Bool, false, get_or, not, refl, sym, ap, ◌∙◌, subst, arith, inl, inr}
-use Rattle.std.proofs.lemmas.Bool.{false≢true, iff_false, cases_Bool, not-true, not-false}
+use Rattle.std.proofs.Common.{◌≡◌, ◌+◌, ◌<◌, length, [], get_or, not, sym, ap, ◌∙◌, subst, arith, inl, inr}
+use Rattle.std.proofs.lemmas.Bool.{false≢true, iff_false, cases_Bool, not-true}
 use Rattle.dn_layout.specs.Layout.{bits_of}
 use Rattle.dn_trace.specs.Trial.{servers_of}
 use Rattle.dn_trace.specs.Reasons.{ShowsWrong}

@@ -1,13 +1,11 @@
-use Rattle.std.proofs.Common.{◌≡◌, ℕ, ◌+◌, ◌<◌, Bool, true, false, eqb, List, [], map, length, get_or, refl, sym, ap, ◌∙◌, subst, arith, inl, inr}
-use Rattle.std.specs.Prelude.{All, filter}
-use Rattle.std.proofs.lemmas.Bool.{iff_false, false≢true, not-false, not-true, eqb-true, eq-eqb, cases_eq}
+use Rattle.std.proofs.Common.{◌≡◌, ℕ, ◌<◌, Bool, true, eqb, List, [], length, get_or, sym, ap, ◌∙◌, subst, arith, inl, inr}
+use Rattle.std.proofs.lemmas.Bool.{iff_false, false≢true, not-false, eqb-true, eq-eqb, cases_eq}
 use Rattle.std.proofs.lemmas.List.{get_or_default}
 use Rattle.dn_records.specs.declared.body.Listed.{Listed}
 use Rattle.dn_records.specs.declared.shown.ShownCipher.{ShownCipher}
 use Rattle.dn_layout.specs.Layout.{bits_of}
 use Rattle.dn_trace.specs.Trial.{round_of}
 use Rattle.dn_trace.specs.Reasons.{row_of}
-use Rattle.dn_trace.specs.Evidence.{AreListed}
 use Rattle.dn_trace.proofs.Matching.{Matched, matched_more, matched_all, matched_few, matched_short, matched_other}
 use Rattle.dn_trace.proofs.showing.are_listed.Goals as goal
 use Rattle.dn_trace.proofs.showing.are_listed.Goals.{then-at-shown-via-then-at-shown, then-at-shown-via-else-at-shown+in_ok-is_listed+then-not-branch}

@@ -1,4 +1,4 @@
-use Rattle.std.proofs.Common.{◌≡◌, ℕ, ◌+◌, ◌<◌, List, ◌++◌, length, get_or, Option, Some, None, refl, sym, ap, ◌∙◌, subst, arith, length-append}
+use Rattle.std.proofs.Common.{◌≡◌, ◌<◌, List, ◌++◌, length, get_or, Some, refl, sym, ap, ◌∙◌, subst, arith, length-append}
 use Rattle.std.proofs.lemmas.Grind.{common_steps}
 use Rattle.std.proofs.lemmas.Bool.{iff_false, false≢true}
 use Rattle.std.specs.Prelude.{Contains}
@@ -9,7 +9,7 @@ use Rattle.std.proofs.lemmas.List.Elements.{Contains-get_or}
 use Rattle.dn_seal.specs.Said.{SaidView}
 use Rattle.dn_trace.specs.Trial.{round_of}
 use Rattle.dn_trace.specs.Evidence.{number_by}
-use Rattle.dn_trace.proofs.Indexing.{Indexed, indexed_none, indexed_skip, indexed_again, indexed_fresh, indexed_all}
+use Rattle.dn_trace.proofs.Indexing.{Indexed, indexed_skip, indexed_again, indexed_fresh, indexed_all}
 use Rattle.dn_trace.proofs.TwiceLemmas.{twice_from, not_twice}
 use Rattle.dn_trace.proofs.twice.is_twice.Goals as goal
 use Rattle.dn_trace.proofs.twice.is_twice.Goals.{in-None+in_ok-insert-in-None, in-Some-copied+else-not-equals}

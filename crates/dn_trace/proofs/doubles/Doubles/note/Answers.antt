@@ -1,9 +1,9 @@
-use Rattle.std.proofs.Common.{◌≡◌, ℕ, ◌<◌, Bool, true, false, not, ◌&&◌, eqb, List, [], ◌∷◌, None, refl, sym, ap, ◌∙◌, subst, arith}
+use Rattle.std.proofs.Common.{◌≡◌, ℕ, true, false, not, ◌&&◌, eqb, List, [], ◌∷◌, None, refl, sym, ◌∙◌, subst, arith}
 use Rattle.std.proofs.lemmas.Bool.{false≢true, eq-eqb}
 use Rattle.std.proofs.lemmas.List.{get_or_default}
 use Rattle.std.specs.Cmp.Lexicographic.{pointwise}
 use Rattle.dn_trace.specs.declared.entries.Submitted.{Submitted}
-use Rattle.dn_trace.specs.Tables.{IsNoted, other}
+use Rattle.dn_trace.specs.Tables.{other}
 use Rattle.dn_trace.proofs.doubles.Doubles.note.Goals as goal
 
 itself : (xs : List ℕ) → pointwise eqb xs xs ≡ true
