@@ -5,13 +5,13 @@
 #![tactic(auto)]
 
 mod fault;
-mod judged;
-mod played;
+mod judging;
+mod playing;
 mod spelled;
 
 pub use fault::PlayFault;
-pub use judged::{judged, opened, repeated};
-pub use played::{Jam, Played, group, play};
+pub use judging::{judged, opened, repeated};
+pub use playing::{Jam, Played, group, play};
 pub use spelled::{
     commit, concede, inventory, pad_bits, rebuttal, receipt, reveal, sealed, shown, sign,
     submission,

@@ -1,14 +1,12 @@
 // Statements and envelopes, field by field.
 
 use crate::fault::PlayFault;
-use crate::played::{Played, bytes_of, seed, server_of};
+use crate::playing::{Played, bytes_of, seed, server_of};
 use dn_bits::Bits;
 use dn_lms::{KeyPair, SigKey};
 use dn_pads::pad_bit;
 use dn_seal::Dealt;
-use dn_wire::{
-    ClientId, ServerId, SignerId, SlotId, put_bytes, put_u8, put_u16, put_u32, put_u64,
-};
+use dn_wire::{ClientId, ServerId, SignerId, SlotId, put_bytes, put_u8, put_u16, put_u32, put_u64};
 use std::alloc::Global;
 
 /// The front of a statement: its kind and its round.

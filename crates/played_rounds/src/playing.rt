@@ -56,7 +56,11 @@ pub fn group(clients: u32, servers: u32) -> Option<GroupSpec>
 /// The seed that client i and server j share.
 pub fn seed(dealt: &Dealt, i: u32, j: u32) -> Result<Seed, PlayFault> {
     let place = u64::from(i) * u64::from(dealt.roster.servers()) + u64::from(j);
-    dealt.seeds.get(place as usize).copied().ok_or(PlayFault::Unfit)
+    dealt
+        .seeds
+        .get(place as usize)
+        .copied()
+        .ok_or(PlayFault::Unfit)
 }
 
 /// The server with which a client is.

@@ -2,7 +2,7 @@ ghost use Rattle.std.specs.Prelude.{All, IfOk, length, ◌<◌, ◌↔◌, IsTru
 ghost use Rattle.dn_seal.specs.Said.{IsUnder};
 
 use crate::fault::PlayFault;
-use crate::played::Played;
+use crate::playing::Played;
 use dn_accuse::Judging;
 use dn_cert::Valid;
 use dn_records::Listed;
@@ -13,11 +13,7 @@ use dn_wire::SlotId;
 use std::alloc::Global;
 
 /// What the envelopes say; unfit where one doesn't unseal.
-pub fn opened(
-    alloc: Global,
-    roster: &Roster,
-    envelopes: &[Vec<u8>],
-) -> Result<Vec<Said>, PlayFault>
+pub fn opened(alloc: Global, roster: &Roster, envelopes: &[Vec<u8>]) -> Result<Vec<Said>, PlayFault>
     ensures { IfOk result (λ v. All (IsUnder roster.now) v.items) }
 {
     let mut heard = Vec::new(alloc);
@@ -33,7 +29,8 @@ pub fn opened(
 fn are_within(rows: &[Listed], clients: u32, servers: u32) -> bool
     ensures { IsTrue result ↔ All (λ l. (l.client.0 < clients) × (l.server.0 < servers)) rows.now }
 {
-    rows.iter().all(|row| row.client.0 < clients && row.server.0 < servers)
+    rows.iter()
+        .all(|row| row.client.0 < clients && row.server.0 < servers)
 }
 
 /// The verdict on the played round, at its place.
@@ -53,15 +50,7 @@ pub fn judged(alloc: Global, played: &Played, heard: &[Said]) -> Result<Verdict,
         slot: SlotId(0),
         k: played.k,
     };
-    Ok(judge(
-        alloc,
-        &Judging,
-        roster,
-        body,
-        &played.layout,
-        &v,
-        heard,
-    )?)
+    Ok(judge(alloc, &Judging, roster, body, &played.layout, &v, heard)?)
 }
 
 /// What was said, again and again, up to so many.
