@@ -159,6 +159,24 @@ compare 'dealing a group of 48 clients and 3 servers' 0.65 'deal 48 3 3 5 6 1' '
 doubled 'a verdict over 65,536 envelopes, 512 clients, 16 servers' 2.3 'verdicts 512 16 65536'
 rate '1,000 inventories of 100 entries with signatures of 1,292 bytes' 200 'records 1000 100 1292'
 
+# Messages in flight: how long all puts, walks and takes take, and how many times as long one departure takes among many
+# messages as among few.
+python3 - "$bench" <<'END' || broken=1
+import subprocess, sys
+def least(count):
+    runs = [subprocess.run([sys.argv[1], "flight", str(count), "100000"], capture_output=True, text=True, check=True)
+            for _ in range(5)]
+    parts = [done.stderr.split() for done in runs]
+    return min(float(p[1]) for p in parts), min(float(p[3]) for p in parts)
+all_of_many, many = least(65535)
+_, few = least(16)
+ratio = round(many / few, 2)
+holds = all_of_many <= 1 and ratio <= 3
+print(f"65,535 messages in flight: {all_of_many:.3f} s, at most 1; a departure {ratio:.2f} times as long as among 16, "
+      f"at most 3: {'holds' if holds else 'BROKEN'}")
+sys.exit(not holds)
+END
+
 # The greatest plain round: every other client says something, so that the script stays within its limit.
 if [ -d "$top/crates/dissent" ]; then
     dissent=$(built dissent)

@@ -6,7 +6,7 @@ fn nine_bits_of_two_bytes(rt: HostRuntime) -> Result<(), Fail> {
     let alloc = rt.alloc();
     let bits = Bits::from_bytes(alloc, &[0xff, 0xff], 9)?;
     let mut bytes = Vec::new(alloc);
-    bits.copy()?.write_bytes(alloc, &mut bytes)?;
+    bits.copy(alloc)?.write_bytes(alloc, &mut bytes)?;
     assert_eq!(rt; bytes.as_slice(), [0xff, 0x80].as_slice());
     Ok(())
 }

@@ -5,6 +5,7 @@
 #![tactic(auto)]
 
 mod deal;
+mod flight;
 mod lms;
 mod pads;
 mod records;
@@ -74,6 +75,7 @@ fn measure(rt: &HostRuntime, words: &[String]) -> Result<String> {
             number(words, 2)?,
             number(words, 3)?,
         ),
+        "flight" => flight::line(rt, alloc, number(words, 1)?, number(words, 2)?),
         name => bail!("no measure {name:?}"),
     }
 }

@@ -104,7 +104,7 @@ impl Rules for Judging {
         if !is_in_slot(layout, *slot, *k) {
             return Err(Invalid::Place);
         }
-        if !body.out.get_or_zero(*k) {
+        if body.thin || !body.out.get_or_zero(*k) {
             return Err(Invalid::Zero);
         }
         Ok(Valid {

@@ -1,6 +1,9 @@
-ghost use Rattle.std.specs.Prelude.{◌<◌, ◌^◌, length};
+ghost use Rattle.std.specs.Prelude.{◌<◌, ◌^◌, length, IfOk};
+ghost use Rattle.dn_seal.specs.Dealt.{slot};
+ghost use Rattle.dn_seal.specs.Said.{IsUnder};
+ghost use Rattle.dn_seal.specs.Signer.{CanSign};
 
-use crate::Judging;
+use crate::{Judging, rebuttal_good, valid};
 use dn_bits::Bits;
 use dn_cert::{Invalid, Rules, Valid};
 use dn_layout::Layout;
@@ -9,7 +12,7 @@ use dn_memory::NoMemory;
 use dn_pads::pad_bit;
 use dn_records::{Body, Digests, Rows, Statement};
 use dn_roster::{GroupSpec, Roster, pair_seed};
-use dn_seal::{Dealt, deal};
+use dn_seal::{Dealt, Said, SigningKey, deal, unseal};
 use dn_wire::{Bytes, ClientId, Round, ServerId, SignerId, SlotId, put_bytes, put_u8, put_u32};
 use std::alloc::Global;
 use std::process::Abort;
@@ -113,19 +116,6 @@ fn small_roster(alloc: Global) -> Result<Roster, NoMemory> {
     ))
 }
 
-/// The thin body of round 2.
-fn thin_body(alloc: Global) -> Result<Body, NoMemory> {
-    Ok(Body {
-        version: 2,
-        r: Round(2),
-        prev: Round(1),
-        thin: true,
-        listed: Rows::of(Vec::new(alloc)),
-        digests: Digests::of(Vec::new(alloc)),
-        out: Bits::zeros(alloc, 0)?,
-    })
-}
-
 /// The body of round 2 whose output has a 1 at place 100 alone.
 fn body_with_one(alloc: Global) -> Result<Body, NoMemory> {
     let mut out = Bits::zeros(alloc, 520)?;
@@ -138,6 +128,16 @@ fn body_with_one(alloc: Global) -> Result<Body, NoMemory> {
         listed: Rows::of(Vec::new(alloc)),
         digests: Digests::of(Vec::new(alloc)),
         out,
+    })
+}
+
+/// A thin body of round 2 that has that output all the same.
+fn thin_body(alloc: Global) -> Result<Body, NoMemory> {
+    let body = body_with_one(alloc)?;
+    Ok(Body {
+        version: 2,
+        thin: true,
+        ..body
     })
 }
 
@@ -197,5 +197,96 @@ fn accusations_hold_or_are_refused(rt: HostRuntime) -> Result<(), Fail> {
         judged(alloc, &thin, slot_0, 2, 0, 100)?,
         Err(Invalid::Zero)
     );
+    Ok(())
+}
+
+/// Slot 0 accuses at this place of round 2.
+fn accusation(k: u32) -> Statement
+    ensures { CanSign (slot 0) result }
+{
+    Statement::Accusation {
+        r: Round(2),
+        slot: SlotId(0),
+        k,
+    }
+}
+
+/// A rebuttal whose envelope is empty.
+fn empty_rebuttal(alloc: Global) -> Statement
+    ensures { CanSign (slot 0) result }
+{
+    Statement::Rebuttal {
+        r: Round(2),
+        k: 100,
+        server: ServerId(1),
+        seed: [7; 32],
+        envelope: Bytes::of(Vec::new(alloc)),
+    }
+}
+
+/// What slot 0 says, with a key that has signed nothing.
+fn said_by_slot_0(rt: &impl Abort, alloc: Global, dealt: &Dealt, s: Statement) -> Result<Said, Fail>
+    requires { CanSign (slot 0) s }
+    ensures { IfOk result (IsUnder dealt.now.roster) }
+{
+    let key = dealt
+        .slot_keys
+        .get(0)
+        .expect(rt, "three slots")
+        .copy(alloc)?;
+    let who = SignerId::Slot(SlotId(0));
+    let mut key = SigningKey::make(alloc, key, dealt.roster.digest(), who)?;
+    assert!(rt; 0 < key.left());
+    let bytes = key.seal(alloc, s)?;
+    match unseal(alloc, &dealt.roster, &bytes) {
+        Ok(said) => Ok(said),
+        Err(_) => Err(Fail::new("it unseals")),
+    }
+}
+
+/// What an accusation that was said is told against a body.
+fn told(
+    roster: &Roster,
+    layout: &Layout,
+    body: &Body,
+    said: &Said,
+) -> Option<Result<Valid, Invalid>>
+    requires { IsUnder roster.now said.now }
+{
+    match said.statement() {
+        Statement::Accusation { .. } => Some(valid(roster, layout, body, said)),
+        _ => None,
+    }
+}
+
+/// Whether a rebuttal of client 0 that was said is good.
+fn found_good(alloc: Global, roster: &Roster, said: &Said) -> Result<Option<bool>, NoMemory>
+    requires { IsUnder roster.now said.now }
+{
+    if roster.clients() == 0 {
+        return Ok(None);
+    }
+    match said.statement() {
+        Statement::Rebuttal { .. } => Ok(Some(rebuttal_good(alloc, roster, ClientId(0), said)?)),
+        _ => Ok(None),
+    }
+}
+
+#[test]
+fn what_was_said_is_judged(rt: HostRuntime) -> Result<(), Fail> {
+    let alloc = rt.alloc();
+    let dealt = deal(alloc, &GROUP)?;
+    let layout = Layout::of(vec![in alloc; 64, 0, 0]?).ok_or("a layout")?;
+    let body = body_with_one(alloc)?;
+    let said = said_by_slot_0(&rt, alloc, &dealt, accusation(100))?;
+    let valid = Valid {
+        r: Round(2),
+        slot: SlotId(0),
+        k: 100,
+    };
+    assert_eq!(rt; told(&dealt.roster, &layout, &body, &said), Some(Ok(valid)));
+    assert_eq!(rt; found_good(alloc, &dealt.roster, &said)?, None);
+    let said = said_by_slot_0(&rt, alloc, &dealt, empty_rebuttal(alloc))?;
+    assert_eq!(rt; found_good(alloc, &dealt.roster, &said)?, Some(false));
     Ok(())
 }

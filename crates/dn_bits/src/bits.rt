@@ -102,11 +102,11 @@ impl Bits {
     }
 
     /// The same string again.
-    pub fn copy(&self) -> Result<Bits, NoMemory>
+    pub fn copy(&self, alloc: Global) -> Result<Bits, NoMemory>
         ensures { IfOk result (λ b. b ≡ self.now) }
     {
         Ok(Bits {
-            words: self.words.clone()?,
+            words: Vec::from_slice(alloc, &self.words)?,
             count: self.count,
         })
     }

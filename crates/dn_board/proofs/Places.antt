@@ -3,7 +3,8 @@ use Rattle.std.proofs.Common.{◌≡◌, ℕ, zero, suc, ◌+◌, ◌<◌, ◌�
 use Rattle.std.proofs.lemmas.List.{take-append-le}
 use mathlib.Core.Option.{some}
 use lib.ListN.{get_elem?}
-use Rattle.dn_turns.specs.Logs.{times, Follows}
+use Rattle.dn_counts.specs.Counts.{times}
+use Rattle.dn_turns.specs.Logs.{Follows}
 use Rattle.dn_board.specs.declared.post.Post.{Post}
 use Rattle.dn_board.specs.Reads.{last_place, AreReads}
 

@@ -1,5 +1,5 @@
 ghost use Rattle.std.specs.Prelude.{◌≡◌, ◌∷◌, [], None, length};
-ghost use Rattle.dn_turns.specs.Turns.{least};
+ghost use Rattle.dn_counts.specs.Numbers.{least};
 ghost use Rattle.dn_board.specs.Reads.{last_place};
 
 use crate::{Board, Letter, Letters, Post};

@@ -11,3 +11,5 @@ pub mod ChainLemmas
 pub mod HeldLemmas
 pub mod ThinLemmas
 pub mod FloorLemmas
+pub mod GrowthLemmas
+pub mod SpelledBody

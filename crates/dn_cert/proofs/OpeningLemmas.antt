@@ -23,8 +23,7 @@ use Rattle.dn_cert.specs.declared.opened.Opened.{Opened}
 use Rattle.dn_cert.specs.declared.opened.Opened.TheVariants as opened
 use Rattle.dn_cert.specs.declared.payload_fault.PayloadFault.{PayloadFault}
 use Rattle.dn_cert.specs.declared.payload_fault.PayloadFault.TheVariants as faults
-use Rattle.dn_cert.specs.Certificate.{CertificateView, IsCertificate, IsSigned, IsUnsigned, certificate_of}
-use Rattle.dn_cert.specs.Certificate.{IsUnder as IsCertificateUnder}
+use Rattle.dn_cert.specs.Certificate.{CertificateView, IsCertificate, IsCertificateUnder, IsSigned, ArePartsRefused, certificate_of}
 use Rattle.dn_cert.specs.Opening.{IsSubmission, IsOpened, IsOpenedEnvelope, IsClosed, IsUnopenedPayload}
 use Rattle.dn_records.proofs.Laws.{ok_is}
 use Rattle.dn_cert.proofs.PartLemmas.{parts_again}
@@ -71,7 +70,7 @@ module _ (roster : RosterView) where
   -- what every server signed isn't refused
   not_unsigned : (body : Body) (signatures : List (List ℕ)) (c : CertificateView) (refusal : CertFault) → IsPayload (payloads.Certificate body signatures)
       → IsCertificate c → IsCertificateUnder roster c → c.bytes ≡ payload_bytes (payloads.Certificate body signatures)
-      → IsUnsigned roster body signatures refusal → ⊥
+      → ArePartsRefused roster body signatures refusal → ⊥
   not_unsigned body signatures c refusal fits is under spelled u =
       let read : certificate_of c.bytes ≡ Ok (body, signatures) = parts_again c.bytes body signatures fits spelled in
       let signed : IsSigned (digest_of roster) roster.version (length roster.clients) roster.servers c.body is.signatures =
@@ -81,7 +80,7 @@ module _ (roster : RosterView) where
       (subst (λ (k : List (List ℕ)). IsSigned c.digest c.body.version c.clients k c.body is.signatures) under.keys is.signed))) in
       let memory : refusal ≡ refusals.NoMemory =
       refused_for_memory roster c.bytes c.body is.signatures signed is.spelled refusal (refused_for_parts roster c.bytes body signatures refusal read (inr u)) in
-      subst (IsUnsigned roster body signatures) memory u
+      subst (ArePartsRefused roster body signatures) memory u
 
   -- envelopes that unseal have no first that doesn't
   not_first_unopened : (envelopes : List (List ℕ)) (shown : List SaidView) (reason : Unopened) → AreOpened roster envelopes shown → reason ≢ reasons.NoMemory

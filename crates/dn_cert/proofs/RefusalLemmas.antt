@@ -12,7 +12,7 @@ use Rattle.dn_records.proofs.Laws.{ok_is}
 use Rattle.dn_roster.specs.Roster.{RosterView, digest_of}
 use Rattle.dn_cert.specs.declared.fault.CertFault.{CertFault}
 use Rattle.dn_cert.specs.declared.fault.CertFault.TheVariants as refusals
-use Rattle.dn_cert.specs.Certificate.{CertificateView, IsCertificate, IsUnder, IsSigned, IsOfRoster, IsSignedAt, IsFirstUnsigned, IsUnsigned, IsRefused, refusal_of, certificate_of}
+use Rattle.dn_cert.specs.Certificate.{CertificateView, IsCertificate, IsCertificateUnder, IsSigned, IsOfRoster, IsSignedAt, IsFirstUnsigned, ArePartsRefused, IsRefused, refusal_of, certificate_of}
 use Rattle.dn_cert.proofs.PartLemmas.{parts_again}
 
 module _ (roster : RosterView) (bytes : List ℕ) (body : Body) (signatures : List (List ℕ))
@@ -53,7 +53,7 @@ refused_for_form roster bytes faults.NoMemory e = tt
 
 -- what a form's body and signatures are refused for refuses the bytes
 pub refused_for_parts : (roster : RosterView) (bytes : List ℕ) (b : Body) (s : List (List ℕ)) (f : CertFault) → certificate_of bytes ≡ Ok (b, s)
-    → (f ≡ refusals.NoMemory) ⊎ IsUnsigned roster b s f → IsRefused roster bytes f
+    → (f ≡ refusals.NoMemory) ⊎ ArePartsRefused roster b s f → IsRefused roster bytes f
 refused_for_parts roster bytes b s (refusals.Form fault) e (inl k) = absurd cc
 refused_for_parts roster bytes b s (refusals.Form fault) e (inr u) = absurd u
 refused_for_parts roster bytes b s (refusals.Missing server) e (inl k) = absurd cc
@@ -65,13 +65,13 @@ refused_for_parts roster bytes b s (refusals.Signature server) e (inr u) = (b, s
 refused_for_parts roster bytes b s refusals.NoMemory e u = tt
 
 pub refused_if : (roster : RosterView) (bytes : List ℕ) (b : Body) (s : List (List ℕ)) (r : Result CertificateView CertFault) → certificate_of bytes ≡ Ok (b, s)
-    → IfErr r (λ f. (f ≡ refusals.NoMemory) ⊎ IsUnsigned roster b s f) → IfErr r (IsRefused roster bytes)
+    → IfErr r (λ f. (f ≡ refusals.NoMemory) ⊎ ArePartsRefused roster b s f) → IfErr r (IsRefused roster bytes)
 refused_if roster bytes b s (Ok c) e u = tt
 refused_if roster bytes b s (Err f) e u = refused_for_parts roster bytes b s f e u
 
 pub accepted_if : (roster : RosterView) (bytes : List ℕ) (b : Body) (s : List (List ℕ)) (r : Result CertificateView CertFault) (x : Body)
     → IsSigned (digest_of roster) roster.version (length roster.clients) roster.servers b s → bytes ≡ payload_bytes (payloads.Certificate b s)
-    → x ≡ b → IfOk r (λ c. IsCertificate c × IsUnder roster c × (c.bytes ≡ bytes) × (c.body ≡ x)) → IfErr r (IsRefused roster bytes)
+    → x ≡ b → IfOk r (λ c. IsCertificate c × IsCertificateUnder roster c × (c.bytes ≡ bytes) × (c.body ≡ x)) → IfErr r (IsRefused roster bytes)
     → MatchResult r (λ c. c.body ≡ b) (λ f. f ≡ refusals.NoMemory)
 accepted_if roster bytes b s (Ok c) x k e same is u = is.3 ∙ same
 accepted_if roster bytes b s (Err f) x k e same is u = refused_for_memory roster bytes b s k e f u

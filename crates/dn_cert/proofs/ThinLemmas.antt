@@ -1,19 +1,17 @@
 -- What certificates and chains keep of thin bodies.
-use Rattle.std.proofs.Common.{◌≡◌, ℕ, ◌≤◌, Bool, true, false, cond, List, [], length, refl, ap, subst}
+use Rattle.std.proofs.Common.{◌≡◌, ℕ, ◌≤◌, Bool, true, false, cond, List, [], length, refl, subst}
 use Rattle.std.specs.Prelude.{Contains, IsTrue}
 use Rattle.std.proofs.lemmas.List.{nil_from_length}
 use Rattle.std.proofs.lemmas.List.Elements.{All-contains}
 use Rattle.dn_wire.specs.declared.ids.SignerId.{SignerId}
-use Rattle.dn_bits.specs.Bits.{bit}
 use Rattle.dn_records.specs.declared.body.Body.{Body}
 use Rattle.dn_records.specs.declared.statement.Statement.{Statement}
 use Rattle.dn_layout.specs.Layout.{bits_of, next_of}
 use Rattle.dn_cert.specs.declared.rules.Valid.{Valid}
 use Rattle.dn_cert.specs.Certificate.{CertificateView, IsCertificate}
-use Rattle.dn_cert.specs.Chain.{ChainView, bodies, IsLayoutAfter, IsChain}
+use Rattle.dn_cert.specs.Chain.{ChainView, bodies, IsLayoutAfter, HasCertificate, IsChain}
 use Rattle.dn_cert.specs.Chain.LayoutAfter.{after_prev}
 use Rattle.dn_cert.specs.Evidence.{IsValid}
-use Rattle.dn_cert.proofs.ListLemmas.{Contains-from_map}
 
 -- a certificate lists at most 512 clients
 pub few_listed : (c : CertificateView) → IsCertificate c → length c.body.listed ≤ 512
@@ -32,10 +30,8 @@ same_where true l m t = refl
 same_where false l m t = absurd cc
 
 module _ (chain : ChainView) (b : Body) (is : IsChain chain) (inside : Contains (bodies chain) b) (thin : IsTrue b.thin) where
-  certificate : (c : CertificateView) × IsCertificate c × (c.body ≡ b)
-  certificate =
-      let found = Contains-from_map (λ (c : CertificateView). c.body) chain.held b inside in
-      (found.0, All-contains IsCertificate chain.held found.0 is.certificates found.1, found.2)
+  certificate : HasCertificate b
+  certificate = All-contains HasCertificate (bodies chain) b is.certified inside
 
   pub is_of_version_2 : b.version ≡ 2
   is_of_version_2 =
@@ -53,10 +49,9 @@ module _ (chain : ChainView) (b : Body) (is : IsChain chain) (inside : Contains 
   no_output =
       let l = is.long b inside in nil_from_length b.out (none_where b.thin (bits_of l.0) (length b.out) thin l.2)
 
-  pub nothing_to_accuse : (layout : List ℕ) (who : SignerId) (s : Statement) (v : Valid) → ¬ IsValid layout b who s v
-  nothing_to_accuse layout who s v valid =
-      let zero : bit b.out v.k ≡ false = ap (λ out. bit out v.k) no_output in
-      let one : bit b.out v.k ≡ true = valid.one in absurd cc
+-- no accusation holds against a thin body
+pub nothing_to_accuse : (b : Body) (layout : List ℕ) (who : SignerId) (s : Statement) (v : Valid) → IsTrue b.thin → ¬ IsValid layout b who s v
+nothing_to_accuse b layout who s v thin valid = let full : b.thin ≡ false = valid.full in absurd cc
 
 -- the layout after a thin body is the one before it
 pub layout_same : (chain : ChainView) (b : Body) (l : List ℕ) → Contains (bodies chain) b → IsTrue b.thin → IsLayoutAfter chain b.prev.0 l → IsLayoutAfter chain b.r.0 l

@@ -52,7 +52,7 @@ pub record IsCertificate (c : CertificateView) : Type 0 where
   pub spelled : c.bytes ≡ payload_bytes (payloads.Certificate c.body signatures)
 
 -- the group is that of this roster
-pub record IsUnder (roster : RosterView) (c : CertificateView) : Type 0 where
+pub record IsCertificateUnder (roster : RosterView) (c : CertificateView) : Type 0 where
   pub digest : c.digest ≡ digest_of roster
   pub version : c.body.version ≡ roster.version
   pub clients : c.clients ≡ length roster.clients
@@ -85,28 +85,28 @@ refusal_of faults.NoMemory = refusals.NoMemory
 refusal_of fault = refusals.Form fault
 
 -- Why a body and signatures in a certificate's form are no certificate under a roster: the first of these that is so.
-abbrev pub IsUnsigned : RosterView → Body → List (List ℕ) → CertFault → Type 0
-IsUnsigned roster body signatures (refusals.Form fault) = ⊥
-IsUnsigned roster body signatures (refusals.Missing server) =
+abbrev pub ArePartsRefused : RosterView → Body → List (List ℕ) → CertFault → Type 0
+ArePartsRefused roster body signatures (refusals.Form fault) = ⊥
+ArePartsRefused roster body signatures (refusals.Missing server) =
     (length signatures ≢ length roster.servers) × (server.0 ≡ min (length signatures) (length roster.servers))
-IsUnsigned roster body signatures (refusals.Body server) =
+ArePartsRefused roster body signatures (refusals.Body server) =
     (length signatures ≡ length roster.servers)
     × (¬ IsOfRoster roster body) × (server.0 ≡ 0)
-IsUnsigned roster body signatures (refusals.Signature server) =
+ArePartsRefused roster body signatures (refusals.Signature server) =
     (length signatures ≡ length roster.servers)
     × IsOfRoster roster body
     × IsFirstUnsigned roster body signatures server
-IsUnsigned roster body signatures refusals.NoMemory = ⊥
+ArePartsRefused roster body signatures refusals.NoMemory = ⊥
 
 -- the bytes are in a certificate's form, and that is why they are no certificate
-abbrev pub IsFormUnsigned : RosterView → List ℕ → CertFault → Type 0
-IsFormUnsigned roster bytes fault =
-    (body : Body) × (signatures : List (List ℕ)) × (certificate_of bytes ≡ Ok (body, signatures)) × IsUnsigned roster body signatures fault
+abbrev pub IsRefusedByParts : RosterView → List ℕ → CertFault → Type 0
+IsRefusedByParts roster bytes fault =
+    (body : Body) × (signatures : List (List ℕ)) × (certificate_of bytes ≡ Ok (body, signatures)) × ArePartsRefused roster body signatures fault
 
 -- Why bytes are no certificate under a roster: the first of these that is so.
 abbrev pub IsRefused : RosterView → List ℕ → CertFault → Type 0
 IsRefused roster bytes (refusals.Form fault) = (fault ≢ faults.NoMemory) × (certificate_of bytes ≡ Err fault)
-IsRefused roster bytes (refusals.Missing server) = IsFormUnsigned roster bytes (refusals.Missing server)
-IsRefused roster bytes (refusals.Body server) = IsFormUnsigned roster bytes (refusals.Body server)
-IsRefused roster bytes (refusals.Signature server) = IsFormUnsigned roster bytes (refusals.Signature server)
+IsRefused roster bytes (refusals.Missing server) = IsRefusedByParts roster bytes (refusals.Missing server)
+IsRefused roster bytes (refusals.Body server) = IsRefusedByParts roster bytes (refusals.Body server)
+IsRefused roster bytes (refusals.Signature server) = IsRefusedByParts roster bytes (refusals.Signature server)
 IsRefused roster bytes refusals.NoMemory = Unit {0}

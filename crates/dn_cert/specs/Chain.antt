@@ -8,15 +8,15 @@ use Rattle.dn_cert.specs.Floor.{is_due_thin}
 use Rattle.dn_cert.specs.declared.hold_fault.HoldFault.{HoldFault}
 use Rattle.dn_cert.specs.declared.hold_fault.HoldFault.TheVariants.{Known, NoPrev, Floor, Length, NoMemory}
 
--- the number of slots, and the certificates held, in order of their rounds
+-- the number of slots, and the bodies held, in order of their rounds
 pub record ChainView : Type 0 where
   pub slots : ℕ
-  pub held : List CertificateView
+  pub held : List Body
 
 abbrev pub bodies : ChainView → List Body
-bodies chain = map (λ c. c.body) chain.held
+bodies chain = chain.held
 
--- a certificate of round r is held
+-- a body of round r is held
 abbrev pub Holds : ChainView → ℕ → Type 0
 Holds chain r = (b : Body) × Contains (bodies chain) b × (b.r.0 ≡ r)
 
@@ -66,26 +66,30 @@ abbrev pub IsRound : ChainView → ℕ → Type 0
 IsRound chain r = (layout : List ℕ) × IsLayoutAfter chain r layout
 
 -- Why a body can't follow: the first of these that is so.
-abbrev pub IsUnheld : ChainView → Body → HoldFault → Type 0
-IsUnheld chain b (Known r) = (r ≡ b.r) × Holds chain b.r.0
-IsUnheld chain b (NoPrev prev) = (prev ≡ b.prev) × (¬ Holds chain b.r.0) × (b.prev.0 ≢ 0) × (¬ Holds chain b.prev.0)
-IsUnheld chain b (Floor count last) =
+abbrev pub IsHoldRefused : ChainView → Body → HoldFault → Type 0
+IsHoldRefused chain b (Known r) = (r ≡ b.r) × Holds chain b.r.0
+IsHoldRefused chain b (NoPrev prev) = (prev ≡ b.prev) × (¬ Holds chain b.r.0) × (b.prev.0 ≢ 0) × (¬ Holds chain b.prev.0)
+IsHoldRefused chain b (Floor count last) =
     (count ≡ length b.listed) × (last ≡ count_at chain b.prev.0)
     × (¬ Holds chain b.r.0) × IsRound chain b.prev.0 × (¬ IsAtFloor chain b)
-IsUnheld chain b (Length have need) =
+IsHoldRefused chain b (Length have need) =
     (¬ Holds chain b.r.0) × ((layout : List ℕ) × IsLayoutAfter chain b.prev.0 layout × (need ≡ bits_due layout b))
     × IsAtFloor chain b × (have ≡ length b.out) × (have ≢ need)
-IsUnheld chain b NoMemory = Unit {0}
+IsHoldRefused chain b NoMemory = Unit {0}
 
--- the certificates with one more, in order of their rounds
-abbrev pub with_held : CertificateView → List CertificateView → List CertificateView
-with_held c [] = c ∷ []
-with_held c (d ∷ ds) = if nat_lt d.body.r.0 c.body.r.0 then d ∷ with_held c ds else c ∷ d ∷ ds
+-- the bodies with one more, in order of their rounds
+abbrev pub with_held : Body → List Body → List Body
+with_held b [] = b ∷ []
+with_held b (d ∷ ds) = if nat_lt d.r.0 b.r.0 then d ∷ with_held b ds else b ∷ d ∷ ds
 
--- what a chain keeps: certificates, one a round, each after its prev
+-- the body is that of a certificate
+abbrev pub HasCertificate : Body → Type 0
+HasCertificate b = (c : CertificateView) × IsCertificate c × (c.body ≡ b)
+
+-- what a chain keeps: bodies of certificates, one a round, each after its prev
 pub record IsChain (chain : ChainView) : Type 0 where
   pub slots : (1 ≤ chain.slots) × (chain.slots ≤ 512)
-  pub certificates : All IsCertificate chain.held
+  pub certified : All HasCertificate (bodies chain)
   pub ascends : IsStrictlyIncreasing (map (λ b. b.r.0) (bodies chain))
   pub before : All (λ b. b.prev.0 < b.r.0) (bodies chain)
   pub floor : (b : Body) → Contains (bodies chain) b → IsAtFloor chain b

@@ -1,5 +1,5 @@
 -- Accusations and rebuttals.
-use Rattle.std.specs.Prelude.{◌≡◌, ◌≢◌, ◌<◌, ◌≤◌, ℕ, Bool, true, false, List, Some}
+use Rattle.std.specs.Prelude.{◌≡◌, ◌≢◌, ◌<◌, ◌≤◌, ◌⊎◌, ℕ, Bool, true, false, List, Some}
 use Rattle.dn_wire.specs.declared.ids.ClientId.{ClientId}
 use Rattle.dn_wire.specs.declared.ids.Round.{Round}
 use Rattle.dn_wire.specs.declared.ids.ServerId.{ServerId}
@@ -23,6 +23,11 @@ use Rattle.dn_cert.specs.declared.rules.Invalid.TheVariants.{Key, Place, Zero}
 abbrev pub shown_bit : List Bool → ClientId → Bool
 shown_bit bits i = bit bits i.0
 
+-- what a statement of pad bits shows of client i, and 0 where the statement is another
+abbrev pub bit_in : Statement → ClientId → Bool
+bit_in (PadBits r k bits) i = shown_bit bits i
+bit_in _ i = false
+
 -- place k is one of slot s
 abbrev pub IsInSlot : List ℕ → ℕ → ℕ → Type 0
 IsInSlot layout s k = (first : ℕ) × (past : ℕ) × (range_of layout s ≡ Some (first, past)) × (first ≤ k) × (k < past)
@@ -37,19 +42,20 @@ IsRebuttal s = (r : Round) × (k : ℕ) × (server : ServerId) × (seed : List �
 abbrev pub IsBySlot : Body → SignerId → Statement → SlotId → ℕ → Type 0
 IsBySlot body who s slot k = (who ≡ Slot slot) × (s ≡ Accusation body.r slot k)
 
--- The accusation holds: the slot itself makes it for the body's round, the place is one of the slot's, and the output has a 1 there. A
--- place past the output's end has a 0.
+-- The accusation holds: the slot itself makes it for the body's round, the place is one of the slot's, and the body isn't thin and its
+-- output has a 1 there. A place past the output's end has a 0.
 pub record IsValid (layout : List ℕ) (body : Body) (who : SignerId) (s : Statement) (v : Valid) : Type 0 where
   pub round : v.r ≡ body.r
   pub by_slot : IsBySlot body who s v.slot v.k
   pub place : IsInSlot layout v.slot.0 v.k
+  pub full : body.thin ≡ false
   pub one : bit body.out v.k ≡ true
 
 -- why an accusation doesn't hold: the first of these that is so
 abbrev pub IsInvalid : List ℕ → Body → SignerId → Statement → Invalid → Type 0
 IsInvalid layout body who s Key = (slot : SlotId) (k : ℕ) → ¬ IsBySlot body who s slot k
 IsInvalid layout body who s Place = (slot : SlotId) × (k : ℕ) × IsBySlot body who s slot k × (¬ IsInSlot layout slot.0 k)
-IsInvalid layout body who s Zero = (slot : SlotId) × (k : ℕ) × IsBySlot body who s slot k × IsInSlot layout slot.0 k × (bit body.out k ≡ false)
+IsInvalid layout body who s Zero = (slot : SlotId) × (k : ℕ) × IsBySlot body who s slot k × IsInSlot layout slot.0 k × ((body.thin ≡ true) ⊎ (bit body.out k ≡ false))
 
 -- A rebuttal of a client is good: the envelope that it carries unseals, as the named server's pad bits of the rebuttal's round and place;
 -- the seed opens the commitment to the seed of the client and the server; and the pad of that seed has another bit at that place than

@@ -18,8 +18,7 @@ use Rattle.dn_cert.specs.declared.opened.Opened.{Opened}
 use Rattle.dn_cert.specs.declared.opened.Opened.TheVariants as opened
 use Rattle.dn_cert.specs.declared.payload_fault.PayloadFault.{PayloadFault}
 use Rattle.dn_cert.specs.declared.payload_fault.PayloadFault.TheVariants as faults
-use Rattle.dn_cert.specs.Certificate.{IsCertificate, IsUnsigned}
-use Rattle.dn_cert.specs.Certificate.{IsUnder as IsCertificateUnder}
+use Rattle.dn_cert.specs.Certificate.{IsCertificate, IsCertificateUnder, ArePartsRefused}
 
 -- a client's word on its ciphertext
 abbrev pub IsSubmission : Statement → Type 0
@@ -71,7 +70,7 @@ IsClosed roster (payloads.Submission cipher envelope) fault =
     IsClosedEnvelope roster envelope fault ⊎ (IsNoSubmission roster envelope × (fault ≡ faults.Form))
 IsClosed roster (payloads.Plain envelope) fault = IsClosedEnvelope roster envelope fault
 IsClosed roster (payloads.Certificate body signatures) fault =
-    (refusal : CertFault) × IsUnsigned roster body signatures refusal × (fault ≡ certificate_fault refusal)
+    (refusal : CertFault) × ArePartsRefused roster body signatures refusal × (fault ≡ certificate_fault refusal)
 IsClosed roster (payloads.Challenge r k envelopes) fault =
     (reason : Unopened) × (reason ≢ reasons.NoMemory) × IsFirstUnopened roster envelopes reason × (fault ≡ envelope_fault reason)
 

@@ -56,6 +56,14 @@ impl Certificate {
         &self.body
     }
 
+    /// The body, without the bytes.
+    pub fn into_body(self) -> Body
+        ensures value { result ≡ self.body }
+        ensures certificate { IsCertificate self }
+    {
+        self.body
+    }
+
     /// The bytes of the payload.
     pub fn bytes(&self) -> &[u8]
         ensures value { result.now ≡ self.now.bytes }

@@ -1,5 +1,5 @@
-ghost use Rattle.std.specs.Prelude.{◌≡◌, ◌≢◌, ◌≤◌, [], length, Contains, IfOk, IfErr, OnOk, OnErr, MatchOption, MatchResult, ⊤};
-ghost use Rattle.dn_cert.specs.Chain.{bodies, Holds, IsLayoutAfter, bits_due, count_at, CanFollow, IsUnheld, with_held, IsChain, IsLatestBelow};
+ghost use Rattle.std.specs.Prelude.{◌≡◌, ◌≢◌, ◌≤◌, [], length, Contains, IfNone, IfSome, IfOk, IfErr, OnOk, OnErr, MatchOption, MatchResult, ⊤};
+ghost use Rattle.dn_cert.specs.Chain.{bodies, Holds, IsLayoutAfter, bits_due, count_at, CanFollow, IsHoldRefused, with_held, IsChain, IsLatestBelow};
 
 use crate::certificate::Certificate;
 use crate::floor::is_due_thin;
@@ -12,8 +12,8 @@ use dn_wire::Round;
 use std::alloc::Global;
 use std::marker::Model;
 
-/// Certificates of different rounds, each of which came after that of its prev, and the layout after each round. They stand in order of
-/// their rounds.
+/// The bodies of certificates of different rounds, each of which came after that of its prev, and the layout after each round. They stand
+/// in order of their rounds. The signatures aren't kept.
 #[derive(Drop)]
 pub struct Chain {
     first: Layout,
@@ -26,15 +26,15 @@ impl Model for Chain {
 
     ghost Value = { ChainView };
 
-    ghost view = { λ c. record { slots = length c.first; held = map (λ h. h.certificate) c.held.items } };
+    ghost view = { λ c. record { slots = length c.first; held = map (λ h. h.body) c.held.items } };
 
     ghost invariant = { λ c.
-        let v : ChainView = record { slots = length c.first; held = map (λ h. h.certificate) c.held.items } in
-        IsChain v × (c.first ≡ replicate v.slots 0) × All (λ h. IsLayoutAfter v h.certificate.body.r.0 h.layout) c.held.items };
+        let v : ChainView = record { slots = length c.first; held = map (λ h. h.body) c.held.items } in
+        IsChain v × (c.first ≡ replicate v.slots 0) × All (λ h. IsLayoutAfter v h.body.r.0 h.layout) c.held.items };
 }
 
 impl Chain {
-    /// The chain of `n` slots that holds no certificate.
+    /// The chain of `n` slots that holds nothing.
     pub fn make(alloc: Global, n: u32) -> Result<Chain, NoMemory>
         requires low { 1 ≤ n }
         requires high { n ≤ 512 }
@@ -62,7 +62,8 @@ impl Chain {
     fn layout_before(&self, body: &Body) -> Result<&Layout, HoldFault>
         requires { length body.now.listed ≤ 512 }
         ensures follows { IfOk result (λ l. CanFollow self.now body.now × IsLayoutAfter self.now body.now.prev.0 l.now × (length body.now.out ≡ bits_due l.now body.now)) }
-        ensures refused { IfErr result (IsUnheld self.now body.now) }
+        ensures refused { IfErr result (IsHoldRefused self.now body.now) }
+        ensures memory { IfErr result (λ f. f ≢ HoldFault.NoMemory) }
     {
         if find(&self.held, body.r).is_some() {
             return Err(HoldFault::Known { r: body.r });
@@ -81,10 +82,25 @@ impl Chain {
         Ok(before)
     }
 
-    /// Holds a certificate, if it can follow. The refusals come in the order of `HoldFault`; after one the chain is as before.
+    /// Why a body can't follow: the first of the reasons of `HoldFault` that is so, but never want of memory; `None` exactly where it can.
+    pub fn refusal(&self, body: &Body) -> Option<HoldFault>
+        requires { length body.now.listed ≤ 512 }
+        ensures follows { IfNone result (CanFollow self.now body.now) }
+        ensures refused { IfSome result (IsHoldRefused self.now body.now) }
+        ensures memory { result ≢ Some HoldFault.NoMemory }
+        ensures chain { IsChain self.now }
+    {
+        let _ = &self.first;
+        match self.layout_before(body) {
+            Ok(_) => None,
+            Err(fault) => Some(fault),
+        }
+    }
+
+    /// Holds the body of a certificate, if it can follow. The refusals come in the order of `HoldFault`; after one the chain is as before.
     pub fn hold(&mut self, alloc: Global, c: Certificate) -> Result<(), HoldFault>
-        ensures held { OnOk result (CanFollow self.old c.body × (self.new ≡ record self.old { held = with_held c self.old.held })) }
-        ensures refused { IfErr result (IsUnheld self.old c.body) }
+        ensures held { OnOk result (CanFollow self.old c.body × (self.new ≡ record self.old { held = with_held c.body self.old.held })) }
+        ensures refused { IfErr result (IsHoldRefused self.old c.body) }
         ensures same { OnErr result (self.new ≡ self.old) }
         // What can follow is held, but for want of memory.
         ensures follows { CanFollow self.old c.body → MatchResult result (λ _. ⊤) (λ f. f ≡ HoldFault.NoMemory) }
@@ -97,7 +113,7 @@ impl Chain {
         let layout = layout_after(alloc, before, c.body())?;
         let at = count_below(&self.held, c.body().r);
         let held = Held {
-            certificate: c,
+            body: c.into_body(),
             layout,
         };
         self.held.insert(at, held)?;
@@ -111,7 +127,7 @@ impl Chain {
     {
         match count_below(&self.held, r) {
             0 => Round(0),
-            count => self.held[count - 1].certificate.body().r,
+            count => self.held[count - 1].body.r,
         }
     }
 
@@ -121,7 +137,7 @@ impl Chain {
         ensures chain { IsChain self.now }
     {
         match find(&self.held, r) {
-            Some(held) => Some(held.certificate.body()),
+            Some(held) => Some(&held.body),
             None => None,
         }
     }
@@ -133,7 +149,7 @@ impl Chain {
         ensures chain { IsChain self.now }
     {
         match find(&self.held, r) {
-            Some(held) => held.certificate.body().listed.get().len() as u32,
+            Some(held) => held.body.listed.get().len() as u32,
             None => 0,
         }
     }

@@ -1,22 +1,26 @@
-ghost use Rattle.std.specs.Prelude.{◌≡◌, ◌↔◌, ◌⊎◌, ◌<◌, ℕ, List, [], length, slice_index_or, IfOk, IfErr, IsTrue, MatchResult};
+ghost use Rattle.std.specs.Prelude.{◌≡◌, ◌↔◌, ◌⊎◌, ◌<◌, ◌≤◌, ◌∷◌, ℕ, List, [], length, take, drop, slice_index_or, IfOk, IfErr, IsTrue, MatchResult};
+ghost use Rattle.std.specs.Int.{w32, from_be_bytes};
 ghost use Rattle.dn_records.specs.Part.{Gives};
-ghost use Rattle.dn_records.specs.Records.{IsPayload, IsBody, payload_bytes, statement_bytes};
+ghost use Rattle.dn_records.specs.Records.{IsPayload, body_bytes, payload_bytes, statement_bytes};
 ghost use Rattle.dn_records.specs.declared.body.Body.{Body};
 ghost use Rattle.dn_records.specs.declared.payload.Payload.TheVariants as payloads;
 ghost use Rattle.dn_roster.specs.Roster.{digest_of};
-ghost use Rattle.dn_cert.specs.Certificate.{IsCertificate, IsUnder, IsOfRoster, digests_due, IsSigned, IsUnsigned, IsRefused, FirstUnsigned, certificate_of};
+ghost use Rattle.dn_cert.specs.Certificate.{IsCertificate, IsCertificateUnder, IsOfRoster, digests_due, IsSigned, ArePartsRefused, IsRefused, FirstUnsigned, certificate_of};
 
 use crate::certificate::Certificate;
 use crate::fault::CertFault;
 use dn_lms::verify;
 use dn_memory::NoMemory;
-use dn_records::{Body, ByteLists, Payload, RecordFault, Statement, decode_payload, encode};
+use dn_records::{Body, ByteLists, Payload, RecordFault, Statement, decode_payload};
 use dn_roster::Roster;
 use dn_wire::{Bytes, ServerId, SignerId};
 use std::alloc::Global;
 
 /// The tag of a certificate's payload.
 const TAG: u8 = 3;
+
+/// The kind of a statement that signs a body.
+const SIGN: u8 = 6;
 
 /// The body and the signatures of a certificate's payload.
 fn parts(alloc: Global, bytes: &[u8]) -> Result<(Body, ByteLists), RecordFault>
@@ -76,7 +80,7 @@ fn server_key(roster: &Roster, j: u32) -> &[u8]
 }
 
 /// The public keys of the servers.
-fn server_keys(alloc: Global, roster: &Roster) -> Result<Vec<[u8; 56]>, NoMemory>
+pub(crate) fn server_keys(alloc: Global, roster: &Roster) -> Result<Vec<[u8; 56]>, NoMemory>
     ensures { IfOk result (λ keys. keys.items ≡ roster.now.servers) }
 {
     let mut keys = Vec::new(alloc);
@@ -88,26 +92,64 @@ fn server_keys(alloc: Global, roster: &Roster) -> Result<Vec<[u8; 56]>, NoMemory
     Ok(keys)
 }
 
-/// The bytes of a server's statement that signs the body.
-fn sign_bytes(alloc: Global, body: &Body) -> Result<Vec<u8>, NoMemory>
-    requires { IsBody body.now }
+/// How many bytes a body has that stands in a certificate's payload.
+fn body_length(bytes: &[u8]) -> u32
+    requires { 5 ≤ length bytes.now }
+    ensures { result ≡ from_be_bytes w32 (take 4 (drop 1 bytes.now)) }
+{
+    let mut number = [0; 4];
+    number.copy_from_slice(&bytes[1..5]);
+    u32::from_be_bytes(number)
+}
+
+/// The bytes of the body in a certificate's payload, which stand behind the tag and their number.
+fn body_part<'a>(bytes: &'a [u8], body: &Body, signatures: &[Bytes]) -> &'a [u8]
+    requires fits { IsPayload (payloads.Certificate body.now signatures.now) }
+    requires spelled { bytes.now ≡ payload_bytes (payloads.Certificate body.now signatures.now) }
+    ensures { result.now ≡ body_bytes body.now }
+{
+    let end = 5 + body_length(bytes) as usize;
+    &bytes[5..end]
+}
+
+/// The kind of a statement that signs a body, and behind it the body's bytes.
+fn behind_kind(alloc: Global, body: &[u8]) -> Result<Vec<u8>, NoMemory>
+    ensures { IfOk result (λ v. v.items ≡ SIGN ∷ body.now) }
+{
+    let mut statement = Vec::with_capacity(alloc, body.len().saturating_add(1))?;
+    statement.push(SIGN)?;
+    statement.extend_from_slice(body)?;
+    Ok(statement)
+}
+
+/// The bytes of a server's statement that signs the body in a certificate's payload.
+fn sign_bytes(
+    alloc: Global,
+    bytes: &[u8],
+    body: &Body,
+    signatures: &[Bytes],
+) -> Result<Vec<u8>, NoMemory>
+    requires fits { IsPayload (payloads.Certificate body.now signatures.now) }
+    requires spelled { bytes.now ≡ payload_bytes (payloads.Certificate body.now signatures.now) }
     ensures { IfOk result (λ v. v.items ≡ statement_bytes (Statement.Sign body.now)) }
 {
-    encode(alloc, &Statement::Sign(body.copy(alloc)?))
+    behind_kind(alloc, body_part(bytes, body, signatures))
 }
 
 /// The first server whose signature of the body doesn't verify.
 fn first_unsigned(
     alloc: Global,
     roster: &Roster,
+    bytes: &[u8],
     body: &Body,
     signatures: &[Bytes],
 ) -> Result<Option<ServerId>, NoMemory>
-    requires body { IsBody body.now }
+    requires fits { IsPayload (payloads.Certificate body.now signatures.now) }
+    requires spelled { bytes.now ≡ payload_bytes (payloads.Certificate body.now signatures.now) }
     requires each { length signatures.now ≡ length roster.now.servers }
     ensures { IfOk result (FirstUnsigned roster.now body.now signatures.now) }
 {
-    let statement = sign_bytes(alloc, body)?;
+    let statement = sign_bytes(alloc, bytes, body, signatures)?;
     for j in 0..roster.servers() {
         let server = ServerId(j);
         let signed = roster.signed_bytes(alloc, SignerId::Server(server), &statement)?;
@@ -128,8 +170,8 @@ pub(crate) fn certified(
 ) -> Result<Certificate, CertFault>
     requires fits { IsPayload (payloads.Certificate body signatures.now) }
     requires spelled { bytes.now ≡ payload_bytes (payloads.Certificate body signatures.now) }
-    ensures certificate { IfOk result (λ c. IsCertificate c × IsUnder roster.now c × (c.bytes ≡ bytes.now) × (c.body ≡ body)) }
-    ensures refused { IfErr result (λ f. (f ≡ CertFault.NoMemory) ⊎ IsUnsigned roster.now body signatures.now f) }
+    ensures certificate { IfOk result (λ c. IsCertificate c × IsCertificateUnder roster.now c × (c.bytes ≡ bytes.now) × (c.body ≡ body)) }
+    ensures refused { IfErr result (λ f. (f ≡ CertFault.NoMemory) ⊎ ArePartsRefused roster.now body signatures.now f) }
 {
     let count = signatures.len();
     let servers = roster.servers();
@@ -142,7 +184,7 @@ pub(crate) fn certified(
             server: ServerId(0),
         });
     }
-    if let Some(server) = first_unsigned(alloc, roster, &body, signatures)? {
+    if let Some(server) = first_unsigned(alloc, roster, bytes, &body, signatures)? {
         return Err(CertFault::Signature { server });
     }
     let keys = server_keys(alloc, roster)?;
@@ -153,7 +195,7 @@ pub(crate) fn certified(
 /// The certificate that the bytes of a payload are: its body, with one signature from each server of the roster, which
 /// verifies on the server's `Sign` of the body. The refusals come in the order of `CertFault`.
 pub fn check(alloc: Global, roster: &Roster, bytes: &[u8]) -> Result<Certificate, CertFault>
-    ensures certificate { IfOk result (λ c. IsCertificate c × IsUnder roster.now c × (c.bytes ≡ bytes.now)) }
+    ensures certificate { IfOk result (λ c. IsCertificate c × IsCertificateUnder roster.now c × (c.bytes ≡ bytes.now)) }
     ensures refused { IfErr result (IsRefused roster.now bytes.now) }
     // What every server signed is accepted, but for want of memory.
     ensures signed { (body : Body) → (signatures : List (List ℕ)) → IsSigned (digest_of roster.now) roster.now.version (length roster.now.clients) roster.now.servers body signatures

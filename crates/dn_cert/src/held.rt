@@ -3,17 +3,16 @@ ghost use Rattle.std.specs.List.{AllWithin};
 ghost use Rattle.std.specs.List.Sorted.{IsStrictlyIncreasing};
 ghost use Rattle.dn_cert.specs.Chain.{bits_due, layout_after};
 
-use crate::certificate::Certificate;
 use dn_layout::Layout;
 use dn_memory::NoMemory;
 use dn_records::Body;
 use dn_wire::Round;
 use std::alloc::Global;
 
-/// A certificate that a chain holds, and the layout after its round.
+/// A body that a chain holds, and the layout after its round.
 #[derive(Drop)]
 pub struct Held {
-    pub certificate: Certificate,
+    pub body: Body,
     pub layout: Layout,
 }
 
@@ -23,7 +22,7 @@ impl Held {
         ensures { IfOk result (λ h. h ≡ self.now) }
     {
         Ok(Held {
-            certificate: self.certificate.copy(alloc)?,
+            body: self.body.copy(alloc)?,
             layout: self.layout.copy(alloc)?,
         })
     }
@@ -61,22 +60,22 @@ pub fn layout_after(alloc: Global, before: &Layout, body: &Body) -> Result<Layou
 
 /// How many of them are of rounds below `r`.
 pub fn count_below(held: &[Held], r: Round) -> usize
-    requires { IsStrictlyIncreasing (map (λ h. h.certificate.body.r.0) held.now) }
+    requires { IsStrictlyIncreasing (map (λ h. h.body.r.0) held.now) }
     ensures bound { result ≤ length held.now }
-    ensures below { AllWithin (λ h. h.certificate.body.r.0 < r.0) held.now 0 result }
-    ensures above { AllWithin (λ h. r.0 ≤ h.certificate.body.r.0) held.now result (length held.now) }
+    ensures below { AllWithin (λ h. h.body.r.0 < r.0) held.now 0 result }
+    ensures above { AllWithin (λ h. r.0 ≤ h.body.r.0) held.now result (length held.now) }
 {
-    held.partition_point(|h| h.certificate.body().r < r)
+    held.partition_point(|h| h.body.r < r)
 }
 
 /// The one of round `r`.
 pub fn find(held: &[Held], r: Round) -> Option<&Held>
-    requires { IsStrictlyIncreasing (map (λ h. h.certificate.body.r.0) held.now) }
-    ensures found { IfSome result (λ h. Contains held.now h.now × (h.now.certificate.body.r ≡ r)) }
-    ensures missing { IfNone result (All (λ h. h.certificate.body.r.0 ≢ r.0) held.now) }
+    requires { IsStrictlyIncreasing (map (λ h. h.body.r.0) held.now) }
+    ensures found { IfSome result (λ h. Contains held.now h.now × (h.now.body.r ≡ r)) }
+    ensures missing { IfNone result (All (λ h. h.body.r.0 ≢ r.0) held.now) }
 {
     let at = count_below(held, r);
-    if at < held.len() && held[at].certificate.body().r == r {
+    if at < held.len() && held[at].body.r == r {
         Some(&held[at])
     } else {
         None

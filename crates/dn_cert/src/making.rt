@@ -30,6 +30,6 @@ pub fn make_body(
         thin,
         listed: Rows::of(Vec::from_slice(alloc, listed)?),
         digests: Digests::of(Vec::from_slice(alloc, digests)?),
-        out: out.copy()?,
+        out: out.copy(alloc)?,
     })
 }

@@ -23,7 +23,7 @@ pub enum Invalid {
     Key,
     /// The place isn't in the slot's range.
     Place,
-    /// The output has a 0 there.
+    /// The body is thin, or its output has a 0 there.
     Zero,
 }
 

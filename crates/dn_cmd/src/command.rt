@@ -1,10 +1,11 @@
 ghost use Rattle.std.specs.Prelude.{◌≡◌, ◌↔◌, ◌⊎◌, map, string_bytes, Some, None, IfSome};
 ghost use Rattle.dn_io.specs.Faults.{Rose};
 ghost use Rattle.dn_cmd.specs.Command.{command_of};
-ghost use Rattle.dn_cmd.specs.Run.{Outside, Ends, IsDue, refusal_of};
+ghost use Rattle.dn_io.specs.Task.{Outside, Ends, IsDue};
+ghost use Rattle.dn_cmd.specs.Run.{script_task, refusal_of};
 
 use crate::text::plain_text;
-use dn_io::{ReadEnd, Sink, Source, Status, WriteEnd, read_whole, write_whole};
+use dn_io::{Sink, Source, Status, read_whole, write_whole};
 use dn_script::{ScriptFault, read_script};
 use dn_wire::MAX_SCRIPT_BYTES;
 use std::alloc::Global;
@@ -58,13 +59,11 @@ fn run<S: Source, K: Sink>(alloc: Global, input: &mut S, output: &mut K) -> Stat
           read_faults = S.faults input.new;
           write_faults = K.faults output.new;
         } in
-        Ends before after result }
+        Ends script_task before after result }
 {
     let text = match read_whole(alloc, input, MAX_SCRIPT_BYTES) {
         Ok(text) => text,
-        Err(ReadEnd::ReadFault) => return Status::ReadFault,
-        Err(ReadEnd::TooLong { limit }) => return Status::TooLong { limit },
-        Err(ReadEnd::NoMemory) => return Status::NoMemory,
+        Err(end) => return Status::from(end),
     };
     let script = match read_script(alloc, &text) {
         Ok(script) => script,
@@ -75,8 +74,7 @@ fn run<S: Source, K: Sink>(alloc: Global, input: &mut S, output: &mut K) -> Stat
     };
     match write_whole(output, &due) {
         Ok(()) => Status::Ok,
-        Err(WriteEnd::WriteFault) => Status::WriteFault,
-        Err(WriteEnd::NoMemory) => Status::NoMemory,
+        Err(end) => Status::from(end),
     }
 }
 
@@ -107,13 +105,13 @@ pub fn dissent<R: Threads + Wait + Sync, S: Source, K: Sink>(
           read_faults = S.faults input.new;
           write_faults = K.faults output.new;
         } in
-        Ends before after result }
+        Ends script_task before after result }
 
     // With no fault of the outside `run` ends as its text asks, unless memory is refused.
     ensures complete { command_of (map string_bytes words.now) ≡ Some Command.Run
         → (Rose (S.faults input.old) (S.faults input.new) → ⊥)
         → (Rose (K.faults output.old) (K.faults output.new) → ⊥)
-        → IfSome (S.left input.old) (λ text. IsDue text result ⊎ (result ≡ Status.NoMemory)) }
+        → IfSome (S.left input.old) (λ text. IsDue script_task text result ⊎ (result ≡ Status.NoMemory)) }
 {
     let _ = rt;
     match read_command(words) {

@@ -1,2 +1,11 @@
 pub mod Order
-pub mod Lists
+pub mod Chains
+pub mod Nodes
+pub mod Removed
+pub mod Put
+pub mod Empty
+pub mod Entries
+pub mod Members
+pub mod Room
+pub mod Walks
+pub mod Leaving

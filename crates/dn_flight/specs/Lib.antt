@@ -1,2 +1,5 @@
+pub mod Arena
+pub mod Chains
 pub mod Flight
-pub mod Wanted
+pub mod Side
+pub mod Whole

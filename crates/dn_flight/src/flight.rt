@@ -1,15 +1,18 @@
-ghost use Rattle.std.specs.Prelude.{◌≡◌, ◌↔◌, ◌+◌, ◌*◌, ◌<◌, ◌≤◌, ◌++◌, ◌∷◌, [], Err, IfOk, OnErr, length, filter, not, count_by, ℕ};
+ghost use Rattle.std.specs.Prelude.{◌≡◌, ◌↔◌, ◌+◌, ◌*◌, ◌≤◌, ◌++◌, ◌∷◌, [], Err, IfOk, OnErr, IsTrue, length, filter, not, count_by};
 ghost use Rattle.dn_wire.specs.declared.limits.TheConstants.{MAX_FLIGHT};
 ghost use Rattle.dn_flight.specs.Flight.{IsFull, AreFrom, is_from, with_id, without_id, first_id, after_id, all_to, next_in};
 
+use crate::arena::Arena;
+use crate::heads::number_of;
 use crate::msg::Msg;
-use crate::wanted::{Gone, Wanted, first_wanted, keep};
 use dn_memory::NoMemory;
-use dn_nodes::Steps;
-use dn_wire::{MAX_FLIGHT, Member};
+use dn_nodes::{NONE, Steps};
+use dn_wire::Member;
 use std::alloc::Global;
-use std::marker::Model;
-use std::sync::ledger::Ledger;
+use std::collections::BTreeMap;
+use std::marker::{Brand, Model};
+use std::ops::Bound;
+use std::sync::ledger::{Blank, Ledger};
 
 /// Why a message wasn't put.
 #[derive(Clone, Copy, Debug, PartialEq, Eq)]
@@ -22,20 +25,21 @@ pub enum PutFault {
 /// The messages in flight. Contracts see them in order of their numbers, and the number of the next one.
 #[derive(Drop)]
 pub struct Flight {
-    msgs: Vec<Msg>,
+    arena: Arena,
+    // The place of each message, by its number.
+    places: BTreeMap<u64, u32>,
     next: u64,
 }
 
 impl Model for Flight {
-    ghost use Rattle.std.specs.Prelude.{◌≤◌, length};
-    ghost use Rattle.dn_wire.specs.declared.limits.TheConstants.{MAX_FLIGHT};
-    ghost use Rattle.dn_flight.specs.Flight.{FlightView, AreFrom};
+    ghost use Rattle.dn_flight.specs.Flight.{FlightView};
+    ghost use Rattle.dn_flight.specs.Whole.{IsKept, msgs_in};
 
     ghost Value = { FlightView };
 
-    ghost view = { λ f. record { msgs = f.msgs.items; next = f.next } };
+    ghost view = { λ f. record { msgs = msgs_in f.arena f.places.entries; next = f.next } };
 
-    ghost invariant = { λ f. AreFrom 0 f.msgs.items f.next × (length f.msgs.items ≤ MAX_FLIGHT) };
+    ghost invariant = { λ f. IsKept f.arena f.places.entries f.next };
 }
 
 impl Flight {
@@ -44,9 +48,17 @@ impl Flight {
         ensures { IfOk result (λ f. (f.msgs ≡ []) × (f.next ≡ 0)) }
     {
         Ok(Flight {
-            msgs: Vec::with_capacity(alloc, 1)?,
+            arena: Arena::make(alloc)?,
+            places: BTreeMap::new(alloc),
             next: 0,
         })
+    }
+
+    /// Whether no further message may be put: 65,536 are held, or the next number is 2^64 - 1.
+    pub fn is_full(&self) -> bool
+        ensures { IsTrue result ↔ IsFull self.now }
+    {
+        self.arena.free == NONE || self.next == u64::MAX
     }
 
     /// Puts a message behind the others, and gives its number.
@@ -55,20 +67,19 @@ impl Flight {
         ensures full { (result ≡ Err PutFault.Full) ↔ IsFull self.old }
         ensures refused { OnErr result (self.new ≡ self.old) }
     {
-        if self.msgs.len() >= MAX_FLIGHT as usize || self.next == u64::MAX {
+        if self.is_full() {
             return Err(PutFault::Full);
         }
-        if self.msgs.reserve(1).is_err() {
+        let Ok(()) = self.arena.room(from, to) else {
             return Err(PutFault::NoMemory);
-        }
+        };
         let id = self.next;
-        self.msgs.push_reserved(Msg {
-            id,
-            from,
-            to,
-            payload,
-        });
+        let Ok(_) = self.places.insert(id, self.arena.free) else {
+            return Err(PutFault::NoMemory);
+        };
         self.next = id + 1;
+        self.arena
+            .put::<Brand>(id, from, to, payload, Blank::new(1));
         Ok(id)
     }
 
@@ -76,13 +87,10 @@ impl Flight {
     pub fn get(&self, id: u64) -> Option<Msg>
         ensures { result ≡ with_id id self.now.msgs }
     {
-        for i in 0..self.msgs.len() {
-            let msg = self.msgs[i];
-            if msg.id == id {
-                return Some(msg);
-            }
+        match self.places.get(&id) {
+            Some(place) => Some(self.arena.msg::<Brand>(*place, Blank::new(1))),
+            None => None,
         }
-        None
     }
 
     /// Takes the message with this number out, if it is held.
@@ -90,9 +98,10 @@ impl Flight {
         ensures taken { result ≡ with_id id self.old.msgs }
         ensures left { (self.new.msgs ≡ without_id id self.old.msgs) × (self.new.next ≡ self.old.next) }
     {
-        let found = self.get(id);
-        keep(&mut self.msgs, &Gone::With(id));
-        found
+        let Some(place) = self.places.remove(&id) else {
+            return None;
+        };
+        Some(self.arena.take::<Brand>(place, Blank::new(1)))
     }
 
     /// Takes the message with this number out, if it is held: it is lost.
@@ -109,44 +118,62 @@ impl Flight {
         ensures count { result ≡ count_by (is_from m) self.old.msgs }
         ensures cost { (steps.old ≤ steps.new) × (steps.new ≤ steps.old + 6 * result) }
     {
-        let before = self.msgs.len();
-        keep(&mut self.msgs, &Gone::From(m));
-        (before - self.msgs.len()) as u32
+        let key = number_of(m);
+        let mut place = self.arena.links.heads.get(key).from_first;
+        let mut dropped = 0;
+        while place != NONE {
+            let node = self.arena.detach(place, steps);
+            self.places.remove(&node.id);
+            place = node.from_after;
+            dropped += 1;
+        }
+        self.arena.links.heads.end_from(key);
+        dropped
     }
 
     /// The least number that is held.
     pub fn first(&self) -> Option<u64>
         ensures { result ≡ first_id self.now.msgs }
     {
-        self.msgs.first().map(|msg| msg.id)
+        match self.places.first_key_value() {
+            Some((id, _)) => Some(*id),
+            None => None,
+        }
     }
 
     /// The least number held above this one, which needn't be held.
     pub fn after(&self, id: u64) -> Option<u64>
         ensures { result ≡ first_id (after_id id self.now.msgs) }
     {
-        first_wanted(&self.msgs, &Wanted::After(id))
+        let above = (Bound::Excluded(id), Bound::Unbounded);
+        match self.places.range(above).next() {
+            Some((id, _)) => Some(*id),
+            None => None,
+        }
     }
 
     /// The number of the first message to this receiver.
     pub fn first_to(&self, m: Member) -> Option<u64>
         ensures { result ≡ first_id (all_to m self.now.msgs) }
     {
-        first_wanted(&self.msgs, &Wanted::To(m))
+        let place = self.arena.links.heads.get(number_of(m)).to_first;
+        self.arena.id_at::<Brand>(place, Blank::new(1))
     }
 
     /// The number of the next message to the same receiver; none too where this number isn't held.
     pub fn next_to(&self, id: u64) -> Option<u64>
         ensures { result ≡ next_in id (with_id id self.now.msgs) self.now.msgs }
     {
-        let msg = self.get(id)?;
-        first_wanted(&self.msgs, &Wanted::ToAfter(msg.to, id))
+        match self.places.get(&id) {
+            Some(place) => self.arena.next_id::<Brand>(*place, Blank::new(1)),
+            None => None,
+        }
     }
 
     /// The messages are in order of their numbers, which are below the next one, and are at most 65,536.
     pub fn order(&self)
         ensures { AreFrom 0 self.now.msgs self.now.next × (length self.now.msgs ≤ MAX_FLIGHT) }
     {
-        let _ = &self.msgs;
+        let _ = &self.next;
     }
 }

@@ -8,12 +8,13 @@ use mathlib.Core.Option.{some, none}
 use native.Mathlib.Decide.{ℕ_discrete, dec_le}
 use lib.ListN.{get_elem?}
 use Rattle.atomic_table.specs.Table.{step, rest}
-use Rattle.dn_gate.specs.Rule.{At, view, total, many, equal, times, is_mark, puts, took, IsOnly, Takes}
+use Rattle.dn_counts.specs.Counts.{total, equal, times}
+use Rattle.dn_gate.specs.Rule.{At, view, many, is_mark, puts, took, IsOnly, Takes}
 use Rattle.dn_gate.specs.Order.{with_number, in_order}
 use Rattle.dn_gate.specs.Collected.{named, clients_of, took_all, KnowsPuts, IsLeftOrTaken}
 use Rattle.dn_gate.specs.declared.view.View.{View}
 use Rattle.dn_wire.specs.declared.ids.ClientId.{ClientId}
-use Rattle.dn_gate.proofs.Sums.{hit, miss, times-append}
+use Rattle.dn_counts.proofs.Sums.{hit, miss, times-append}
 use Rattle.dn_gate.proofs.Marks.{once_most, once_yes, once_no, many_le, many_more}
 
 module _ {T : Type 0} where

@@ -1,9 +1,10 @@
 -- As many values are taken as the closing counts.
 use Rattle.std.proofs.Common.{◌≡◌, ℕ, ◌≤◌, List, [], length, ap, subst, ◌∙◌, arith, IfSome, Option, Some}
-use Rattle.dn_gate.specs.Rule.{At, total, many, marked_count, times, is_mark, sees}
+use Rattle.dn_counts.specs.Counts.{total, times}
+use Rattle.dn_gate.specs.Rule.{At, many, marked_count, is_mark, sees}
 use Rattle.dn_gate.specs.Collected.{clients_of, took_all}
 use Rattle.dn_wire.specs.declared.ids.ClientId.{ClientId}
-use Rattle.dn_gate.proofs.Sums.{total-append, times-append}
+use Rattle.dn_counts.proofs.Sums.{total-append, times-append}
 use Rattle.dn_gate.proofs.Marks.{many_le}
 use Rattle.dn_gate.proofs.Rights.{with_right}
 

@@ -7,10 +7,11 @@ use lib.ListN.{get_elem?}
 use Rattle.atomic_table.specs.Table.{Step}
 use Rattle.atomic_table.specs.Seated.{TableId}
 use Rattle.dn_gate.specs.Draws.{Draw}
-use Rattle.dn_gate.specs.Rule.{At, closed, total, equal, once_below, included_of, IsBefore, IsTold, includes, puts, marks_upto, view, IsSettled, Settles}
+use Rattle.dn_counts.specs.Counts.{total, equal, once_below}
+use Rattle.dn_gate.specs.Rule.{At, closed, included_of, IsBefore, IsTold, includes, puts, marks_upto, view, IsSettled, Settles}
 use Rattle.dn_gate.specs.Pass.{GateId, PassView, pass_view, as_view, IsReady}
 use Rattle.dn_gate.specs.declared.view.View.{View}
-use Rattle.dn_gate.proofs.Sums.{hit, miss, below_more, below_yes, below_no}
+use Rattle.dn_counts.proofs.Sums.{hit, miss, below_more, below_yes, below_no}
 
 module _ {A : Type 0} where
   pub total_both : (f g h : A → ℕ) → ((x : A) → f x + g x ≡ h x) → (l : List A) → total f l + total g l ≡ total h l

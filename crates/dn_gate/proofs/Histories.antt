@@ -13,11 +13,12 @@ use Rattle.dn_told.specs.declared.told.WindowTold.TheVariants.{Included, Late, R
 use Rattle.dn_told.specs.Window.{WindowEvent, Submit, Close, is_among, has_submitted, is_closed, told_after, answers_after, answers, included_client}
 use Rattle.dn_told.proofs.WindowLemmas.{has_submitted-append, is_closed-append, answers_after-append}
 use Rattle.dn_gate.specs.Draws.{Draw}
-use Rattle.dn_gate.specs.Rule.{closed, total, times, equal, was, of_client, included_of, IsBefore, IsTold, IsSettled}
+use Rattle.dn_counts.specs.Counts.{total, times, equal}
+use Rattle.dn_gate.specs.Rule.{closed, was, of_client, included_of, IsBefore, IsTold, IsSettled}
 use Rattle.dn_gate.specs.Order.{with_number, in_order}
 use Rattle.dn_gate.specs.Pass.{PassView, as_view}
 use Rattle.dn_gate.specs.History.{submissions, drawn, told_at, repeats_of, history, told, IsHistory}
-use Rattle.dn_gate.proofs.Sums.{term_le, terms_le, total-append, hit, miss, times-append}
+use Rattle.dn_counts.proofs.Sums.{term_le, terms_le, total-append, hit, miss, times-append}
 
 or_false : (b : Bool) → (b || false) ≡ b
 or_false true = refl

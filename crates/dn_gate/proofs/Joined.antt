@@ -1,10 +1,11 @@
 -- A pass after a join.
 use Rattle.std.proofs.Common.{◌≡◌, ℕ, ◌+◌, ◌<◌, ◌≤◌, ◌⊎◌, inl, inr, min, [], length, sym, refl, ap, subst, ◌∙◌, arith, cond, is_some, Option, Some, None, length-append}
 use Rattle.atomic_table.specs.Table.{Step}
-use Rattle.dn_gate.specs.Rule.{At, joined, least, has_closing, either_one, Ascends, IsSettled, Settles}
+use Rattle.dn_counts.specs.Numbers.{least, first_some}
+use Rattle.dn_gate.specs.Rule.{At, joined, has_closing, Ascends, IsSettled, Settles}
 use Rattle.dn_gate.specs.Pass.{IsPass}
 use Rattle.dn_gate.specs.declared.view.View.{View}
-use Rattle.dn_gate.proofs.Least.{least-append}
+use Rattle.dn_counts.proofs.Least.{least-append}
 use Rattle.dn_gate.proofs.Counted.{plain, settled_plain}
 
 module _ {T : Type 0} where
@@ -38,4 +39,4 @@ module _ {T : Type 0} where
       by : (p q : Option ℕ) → v.closing ≡ p → w.closing ≡ q → (v.closing ≡ None) ⊎ (w.closing ≡ None)
       by None q x y = inl x
       by (Some c) None x y = inr y
-      by (Some c) (Some d) x y = absurd (omega (arith, sum, a, b, most (either_one v.closing w.closing), ap (λ o. cond {A = ℕ} (is_some o) 1 0) x, ap (λ o. cond {A = ℕ} (is_some o) 1 0) y))
+      by (Some c) (Some d) x y = absurd (omega (arith, sum, a, b, most (first_some v.closing w.closing), ap (λ o. cond {A = ℕ} (is_some o) 1 0) x, ap (λ o. cond {A = ℕ} (is_some o) 1 0) y))

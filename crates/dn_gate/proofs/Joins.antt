@@ -7,9 +7,11 @@ use lib.ListN.{get_elem?}
 use Rattle.atomic_table.specs.Table.{Joins, Splits, opening}
 use Rattle.atomic_table.proofs.Lists.{at_set, at_snoc, set_else}
 use Rattle.dn_gate.specs.Draws.{Draw}
-use Rattle.dn_gate.specs.Rule.{total, equal, times, once_below, at_place, of_client, included_of, is_client, either_one, joined, spent, after_first, first_only, is_set, was, without_first, of_first, without_right, of_right, claims, draws_of, puts, is_mark, sees, has_closing, Fits, IsKept}
+use Rattle.dn_counts.specs.Counts.{total, equal, times, once_below}
+use Rattle.dn_counts.specs.Numbers.{first_some, rest_of, first_of}
+use Rattle.dn_gate.specs.Rule.{at_place, of_client, included_of, is_client, joined, spent, is_set, was, without_first, of_first, without_right, of_right, claims, draws_of, puts, is_mark, sees, has_closing, Fits, IsKept}
 use Rattle.dn_gate.specs.declared.view.View.{View}
-use Rattle.dn_gate.proofs.Sums.{total-append, total-set, term_le, terms_le, times-append, hit, below_no}
+use Rattle.dn_counts.proofs.Sums.{total-append, total-set, term_le, terms_le, times-append, hit, below_no}
 use Rattle.dn_gate.proofs.Ranges.{length-range, range_below, times-range}
 use Rattle.dn_gate.proofs.Merges.{Among, total-merge, among-merge, rises-merge}
 
@@ -124,11 +126,11 @@ module _ (T : Type 0) (clients passes : ℕ) (before : List ℕ) where
           one true = omega arith
           one false = omega arith
 
-      either_cut : (o a b : Option ℕ) → IfSome a (λ n. o ≡ Some n) → IfSome b (λ n. o ≡ Some n) → IfSome (either_one a b) (λ n. o ≡ Some n)
+      either_cut : (o a b : Option ℕ) → IfSome a (λ n. o ≡ Some n) → IfSome b (λ n. o ≡ Some n) → IfSome (first_some a b) (λ n. o ≡ Some n)
       either_cut o None b p q = q
       either_cut o (Some n) b p q = p
 
-      either_has : (a b : Option ℕ) → cond {A = ℕ} (is_some a) 1 0 + cond {A = ℕ} (is_some b) 1 0 ≤ 1 → cond {A = ℕ} (is_some (either_one a b)) 1 0 ≡ cond {A = ℕ} (is_some a) 1 0 + cond {A = ℕ} (is_some b) 1 0
+      either_has : (a b : Option ℕ) → cond {A = ℕ} (is_some a) 1 0 + cond {A = ℕ} (is_some b) 1 0 ≤ 1 → cond {A = ℕ} (is_some (first_some a b)) 1 0 ≡ cond {A = ℕ} (is_some a) 1 0 + cond {A = ℕ} (is_some b) 1 0
       either_has None b h = omega arith
       either_has (Some n) None h = omega arith
       either_has (Some n) (Some m) h = absurd (omega arith)
@@ -159,8 +161,8 @@ module _ (T : Type 0) (clients passes : ℕ) (before : List ℕ) where
       let lim : (v.clients ≡ clients) × (v.passes ≡ passes) × (v.before ≡ before) = ⊎_elim (λ e. absurd (omega (arith, ap length is))) (λ e. e) f.limits in
       let both : (g : View T → ℕ) → total g (set s.views id w ++ u ∷ []) + g v ≡ total g s.views + g w + g u = λ g. omega (arith, total-append g (set s.views id w) (u ∷ []), total-set g s.views id v w at) in
       let first_below : (i j : ℕ) → get_elem? (n ∷ []) i ≡ some j → j < passes = λ i j e. f.below 0 j (ap (λ l. get_elem? l 0) is ∙ one_at n i j e) in
-      let wn : w.numbers ≡ m ∷ ns = ap after_first is in
-      let un : u.numbers ≡ n ∷ [] = ap first_only is in
+      let wn : w.numbers ≡ m ∷ ns = ap rest_of is in
+      let un : u.numbers ≡ n ∷ [] = ap first_of is in
       let same : (g : View T → ℕ) → g w ≡ g v → g u ≡ 0 → total g (set s.views id w ++ u ∷ []) ≡ total g s.views = λ g a b. omega (arith, both g, a, b) in
       let lows : total (λ x. length x.draws) (set s.views id w ++ u ∷ []) ≡ total (λ x. length x.draws) s.views = same (λ x. length x.draws) refl refl in
       let wf : Fits clients passes before k.cut w = record { limits = inr lim; told = f.told; inside = f.inside; ascending = f.ascending; below = λ i j e. f.below (suc i) j (ap (λ l. get_elem? l (suc i)) is ∙ ap (λ l. get_elem? l i) (sym wn) ∙ e); numbered = f.numbered; closing = f.closing; marks = f.marks; asked = f.asked; made = f.made; refused = f.refused; takes = f.takes; idle = λ z. (ap length no_draws, ap length no_values, ap length no_repeats, no_closing, no_claim) } in

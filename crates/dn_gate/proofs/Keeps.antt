@@ -8,9 +8,11 @@ use lib.Seq.{set-get_or}
 use Rattle.atomic_table.specs.Table.{State, step, Act, keeps, takes, gives, rest, Valid, carried_after, homes_after, stepped, Allows}
 use Rattle.atomic_table.proofs.Lists.{at_set, at_snoc, set_here, set_again, set_else}
 use Rattle.dn_gate.specs.Draws.{Draw}
-use Rattle.dn_gate.specs.Rule.{closed, after_first, is_set, was, total, equal, times, once_below, at_place, of_client, included_of, is_client, IsBefore, IsTold, view, closed_at, refused_at, IsShut, claims, draws_of, puts, has_closing, many, is_mark, sees, drew_in, drew_late, claimed, repeated, marked, took, looked_at, least, Ascends, Fits, IsKept, At, Claims, Closes, Draws, Marks, Looks, Takes, Returns, IsSettled, IsIdle, Settles}
+use Rattle.dn_counts.specs.Numbers.{rest_of, least}
+use Rattle.dn_counts.specs.Counts.{total, equal, times, once_below}
+use Rattle.dn_gate.specs.Rule.{closed, is_set, was, at_place, of_client, included_of, is_client, IsBefore, IsTold, view, closed_at, refused_at, IsShut, claims, draws_of, puts, has_closing, many, is_mark, sees, drew_in, drew_late, claimed, repeated, marked, took, looked_at, Ascends, Fits, IsKept, At, Claims, Closes, Draws, Marks, Looks, Takes, Returns, IsSettled, IsIdle, Settles}
 use Rattle.dn_gate.specs.declared.view.View.{View}
-use Rattle.dn_gate.proofs.Sums.{set_over, total-append, total-set, term_le, total_less, whole, someone, times-append, below_no, below_more, hit, miss, in_range, snoc_at}
+use Rattle.dn_counts.proofs.Sums.{set_over, total-append, total-set, term_le, total_less, whole, someone, times-append, below_no, below_more, hit, miss, in_range, snoc_at}
 use Rattle.dn_gate.proofs.Bits.{close_open, close_closed}
 use Rattle.dn_gate.proofs.Least.{least_below}
 use Rattle.dn_gate.proofs.Marks.{few_seen}
@@ -62,16 +64,16 @@ module _ (T : Type 0) (clients passes : ℕ) (before : List ℕ) where
       one true = omega arith
       one false = omega arith
 
-  length-after_first : (ws : List ℕ) → length (after_first ws) ≡ length ws - 1
-  length-after_first [] = refl
-  length-after_first (w ∷ ws) = omega arith
+  length-rest_of : (ws : List ℕ) → length (rest_of ws) ≡ length ws - 1
+  length-rest_of [] = refl
+  length-rest_of (w ∷ ws) = omega arith
 
-  after_first-set : (ws : List ℕ) (n : ℕ) → after_first (set ws 0 n) ≡ after_first ws
-  after_first-set [] n = refl
-  after_first-set (w ∷ ws) n = refl
+  rest_of-set : (ws : List ℕ) (n : ℕ) → rest_of (set ws 0 n) ≡ rest_of ws
+  rest_of-set [] n = refl
+  rest_of-set (w ∷ ws) n = refl
 
   at_most : (s : St) (k : Kept s) → low s ≤ clients
-  at_most s k = omega (arith, k.few, fewer s.views, all_set (after_first s.words), length-after_first s.words, k.wide)
+  at_most s k = omega (arith, k.few, fewer s.views, all_set (rest_of s.words), length-rest_of s.words, k.wide)
 
   -- a close that was refused
   denied : (s : St) (k : Kept s) (id r : ℕ) (v : View T) → 0 < length v.numbers → get_elem? s.views id ≡ some v → IsShut k.cut r → r ≤ get_or s.words 0 0 → Kept record { words = s.words; homes = s.homes; views = set s.views id (refused_at v r) }
@@ -151,7 +153,7 @@ module _ (T : Type 0) (clients passes : ℕ) (before : List ℕ) where
             numbers = same_draws (λ u. length u.numbers) refl ∙ k.numbers;
             once = λ i. omega (arith, same_draws (λ u. times i u.numbers) refl, k.once i);
             control = omega (arith, here, lows, is);
-            few = omega (arith, same_draws (λ u. length u.draws + cond (is_some u.claim) 1 0) refl, k.few, ap (total is_set) (after_first-set s.words (c + 4294967296)));
+            few = omega (arith, same_draws (λ u. length u.draws + cond (is_some u.claim) 1 0) refl, k.few, ap (total is_set) (rest_of-set s.words (c + 4294967296)));
             places = λ i. same_draws (λ u. total (at_place i) u.draws) refl ∙ k.places i ∙ ap (once_below i) (sym lows);
             closings = omega (arith, total-set has_closing s.views id v w at, none_closed, mine);
             rights = omega (arith, total-set (λ u. u.right) s.views id v w at, no_right);
@@ -245,7 +247,7 @@ module _ (T : Type 0) (clients passes : ℕ) (before : List ℕ) where
         numbers = same (λ u. length u.numbers) refl ∙ k.numbers;
         once = λ j. omega (arith, same (λ u. times j u.numbers) refl, k.once j);
         control = omega (arith, here, lows, k.control);
-        few = omega (arith, total-set (λ u. length u.draws + cond (is_some u.claim) 1 0) s.views id v w at, k.few, ap (total is_set) (after_first-set s.words (c + 1)), length-append v.draws (d ∷ []), ap (λ o. cond {A = ℕ} (is_some o) 1 0) claim);
+        few = omega (arith, total-set (λ u. length u.draws + cond (is_some u.claim) 1 0) s.views id v w at, k.few, ap (total is_set) (rest_of-set s.words (c + 1)), length-append v.draws (d ∷ []), ap (λ o. cond {A = ℕ} (is_some o) 1 0) claim);
         places = λ j. omega (arith, total-set (λ u. total (at_place j) u.draws) s.views id v w at, k.places j, total-append (at_place j) v.draws (d ∷ []), ap (λ x. equal x j) place, below_more j (low s), ap (once_below j) lows);
         closings = same has_closing refl ∙ k.closings;
         rights = omega (arith, same (λ u. u.right) refl, k.rights);
@@ -350,13 +352,13 @@ module _ (T : Type 0) (clients passes : ℕ) (before : List ℕ) where
   index_at (w ∷ ws) zero h = refl
   index_at (w ∷ ws) (suc i) h = index_at ws i (omega arith)
 
-  after_first-at : (ws : List ℕ) (i : ℕ) → i + 1 < length ws → get_elem? (after_first ws) i ≡ some (get_or ws (i + 1) 0)
-  after_first-at [] i h = absurd (omega arith)
-  after_first-at (w ∷ ws) i h = index_at ws i (omega arith) ∙ (let e : suc i ≡ i + 1 = omega arith in ap (λ (j : ℕ). some (get_or (w ∷ ws) j 0)) e)
+  rest_of-at : (ws : List ℕ) (i : ℕ) → i + 1 < length ws → get_elem? (rest_of ws) i ≡ some (get_or ws (i + 1) 0)
+  rest_of-at [] i h = absurd (omega arith)
+  rest_of-at (w ∷ ws) i h = index_at ws i (omega arith) ∙ (let e : suc i ≡ i + 1 = omega arith in ap (λ (j : ℕ). some (get_or (w ∷ ws) j 0)) e)
 
-  after_first-set_at : (ws : List ℕ) (i n : ℕ) → i + 1 < length ws → after_first (set ws (i + 1) n) ≡ set (after_first ws) i n
-  after_first-set_at [] i n h = absurd (omega arith)
-  after_first-set_at (w ∷ ws) i n h = let e : i + 1 ≡ suc i = omega arith in ap (λ (j : ℕ). after_first (set (w ∷ ws) j n)) e
+  rest_of-set_at : (ws : List ℕ) (i n : ℕ) → i + 1 < length ws → rest_of (set ws (i + 1) n) ≡ set (rest_of ws) i n
+  rest_of-set_at [] i n h = absurd (omega arith)
+  rest_of-set_at (w ∷ ws) i n h = let e : i + 1 ≡ suc i = omega arith in ap (λ (j : ℕ). rest_of (set (w ∷ ws) j n)) e
 
   -- the word of client i becomes n, and the seat id goes from v to w, with the same draws
   client_step : (s : St) (k : Kept s) (id i n : ℕ) (v w : View T) (homes : List (Maybe (Option T))) → i < clients → get_elem? s.views id ≡ some v
@@ -396,8 +398,8 @@ module _ (T : Type 0) (clients passes : ℕ) (before : List ℕ) where
           few_is,
           total-set (λ u. length u.draws + cond (is_some u.claim) 1 0) s.views id v w at,
           ap length drs,
-          ap (total is_set) (after_first-set_at s.words i n inside_words),
-          total-set is_set (after_first s.words) i (get_or s.words (i + 1) 0) n (after_first-at s.words i inside_words),
+          ap (total is_set) (rest_of-set_at s.words i n inside_words),
+          total-set is_set (rest_of s.words) i (get_or s.words (i + 1) 0) n (rest_of-at s.words i inside_words),
         );
         places = λ j. same (λ u. total (at_place j) u.draws) (ap (total (at_place j)) drs) ∙ k.places j ∙ ap (once_below j) (sym lows);
         closings = same has_closing (ap (λ o. cond {A = ℕ} (is_some o) 1 0) cls) ∙ k.closings;

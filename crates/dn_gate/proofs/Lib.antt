@@ -1,4 +1,3 @@
-pub mod Sums
 pub mod Bits
 pub mod Least
 pub mod Marks

@@ -5,9 +5,10 @@ use Rattle.std.proofs.lemmas.List.{map-append}
 use mathlib.Core.Logic.{dite}
 use native.Mathlib.Decide.{ℕ_discrete}
 use Rattle.std.proofs.lemmas.List.Sums.{sum_by-append}
-use Rattle.dn_gate.specs.Rule.{At, view, looked_at, looked_all, many, marked_count, marks_upto, is_mark, is_three, equal, puts, total}
+use Rattle.dn_counts.specs.Counts.{equal, total}
+use Rattle.dn_gate.specs.Rule.{At, view, looked_at, looked_all, many, marked_count, marks_upto, is_mark, is_three, puts}
 use Rattle.dn_gate.specs.declared.view.View.{View}
-use Rattle.dn_gate.proofs.Sums.{total-append, hit}
+use Rattle.dn_counts.proofs.Sums.{total-append, hit}
 use Rattle.dn_gate.proofs.Marks.{once_most, once_yes, many_le, many_more}
 
 module _ {T : Type 0} where

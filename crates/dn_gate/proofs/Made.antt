@@ -5,12 +5,14 @@ use mathlib.Core.Option.{some-ne-none}
 use lib.ListN.{get_elem?}
 use native.Mathlib.Decide.{ℕ_discrete}
 use Rattle.atomic_table.specs.Table.{Splits}
-use Rattle.dn_gate.specs.Opening.{range}
-use Rattle.dn_gate.specs.Rule.{At, view, first_only, after_first, without_first, of_first, IsKept, has_closing, was, times}
+use Rattle.dn_counts.specs.Numbers.{range}
+use Rattle.dn_counts.specs.Counts.{times}
+use Rattle.dn_gate.specs.Rule.{At, view, without_first, of_first, IsKept, has_closing, was}
 use Rattle.dn_gate.specs.Pass.{GateId, PassView, pass_view, IsPass, IsFresh, IsNew}
 use Rattle.atomic_table.specs.Seated.{TableId}
 use Rattle.dn_gate.specs.declared.view.View.{View}
-use Rattle.dn_gate.proofs.Sums.{times-append, hit, miss}
+use Rattle.dn_counts.proofs.Sums.{times-append, hit, miss}
+use Rattle.dn_counts.proofs.Numbered.{range_two, first_of-range, rest_of-range}
 use Rattle.dn_gate.proofs.Joins.{cuts}
 
 -- one client more that was there before
@@ -25,29 +27,6 @@ pub word_more : (ws xs ys : List ℕ) (n c : ℕ) → length ws ≡ n + 1 → c 
 word_more ws xs ys n c long inside e h i lt = dite (ℕ_discrete i c)
     (λ q. ap (λ (k : ℕ). get_or (set ws (c + 1) 1) (k + 1) 0) q ∙ get_or-set_same ws (c + 1) 1 0 (omega arith) ∙ sym (was_it xs c) ∙ ap (λ l. was l c) (sym e) ∙ ap (was ys) (sym q))
     (λ ne. get_or-set_other ws (c + 1) (i + 1) 1 0 (λ q. ne (omega arith)) ∙ h i lt ∙ sym (was_more xs c i ne) ∙ ap (λ l. was l i) (sym e))
-
-pub range_one : (n k : ℕ) → k ≡ 1 → range n k ≡ n ∷ []
-range_one n k e = ap (range n) e
-
-range_two : (n k : ℕ) → 1 < k → range n k ≡ n ∷ (n + 1) ∷ range (n + 1 + 1) (k - 2)
-range_two n zero h = absurd (omega arith)
-range_two n (suc zero) h = absurd (omega arith)
-range_two n (suc (suc k)) h = let e : k ≡ suc (suc k) - 2 = omega arith in ap (λ (j : ℕ). n ∷ (n + 1) ∷ range (n + 1 + 1) j) e
-
-first_only-range : (n k : ℕ) → 0 < k → first_only (range n k) ≡ n ∷ []
-first_only-range n zero h = absurd (omega arith)
-first_only-range n (suc k) h = refl
-
-after_first-range : (n k : ℕ) → 0 < k → after_first (range n k) ≡ range (n + 1) (k - 1)
-after_first-range n zero h = absurd (omega arith)
-after_first-range n (suc k) h = let e : k ≡ suc k - 1 = omega arith in ap (range (n + 1)) e
-
-pub all_more : {A : Type 0} (P : ℕ → A → Type 0) (xs : List A) (x : A) (n : ℕ) → length xs ≡ n → ((i : ℕ) → IfSome (slice_get xs i) (P i)) → P n x → (i : ℕ) → IfSome (slice_get (xs ++ x ∷ []) i) (P i)
-all_more P [] x n e h p zero = subst (λ (k : ℕ). P k x) (sym e) p
-all_more P [] x n e h p (suc i) = tt
-all_more P (y ∷ xs) x zero e h p i = absurd (omega arith)
-all_more P (y ∷ xs) x (suc n) e h p zero = h zero
-all_more P (y ∷ xs) x (suc n) e h p (suc i) = all_more (λ k a. P (suc k) a) xs x n (omega arith) (λ k. h (suc k)) p i
 
 pub all_at : {A : Type 0} (P : ℕ → A → Type 0) (Q : A → Type 0) → ((i : ℕ) (a : A) → P i a → Q a) → (xs : List A) → ((i : ℕ) → IfSome (slice_get xs i) (P i)) → (k : ℕ) (d : A) → k < length xs → Q (get_or xs k d)
 all_at P Q f [] h k d lt = absurd (omega arith)
@@ -70,7 +49,7 @@ module _ {T : Type 0} where
   pub made_pass : (passes clients n : ℕ) (b : List ℕ) (m : At T) → m ≡ (idle_view passes clients b (n ∷ []), []) → IsPass m n
   made_pass passes clients n b m e = record {
     live = omega (arith, ap (λ (x : At T). length x.0.numbers) e);
-    least_is = sym (ap (λ (x : At T). Rattle.dn_gate.specs.Rule.least x.0.numbers) e);
+    least_is = sym (ap (λ (x : At T). Rattle.dn_counts.specs.Numbers.least x.0.numbers) e);
     empty = λ _. ap (λ (x : At T). x.1) e;
     ascends = λ i j x y lt a b. absurd (some-ne-none x (sym a ∙ ap (λ (q : At T). get_elem? q.0.draws i) e));
     made = ap (λ (x : At T). x.0.closings) e ∙ sym (ap (λ (x : At T). has_closing x.0) e);
@@ -84,7 +63,7 @@ module _ {T : Type 0} where
   }
 
   pub first_cut : (passes clients n k : ℕ) (b : List ℕ) (m n' : At T) → 0 < k → m ≡ (idle_view passes clients b (range n k), []) → n' ≡ (of_first m.0, []) → n' ≡ (idle_view passes clients b (n ∷ []), [])
-  first_cut passes clients n k b m n' h e d = d ∙ ap (λ (x : At T). (of_first x.0, [])) e ∙ ap (λ ns. (idle_view passes clients b ns, [])) (first_only-range n k h)
+  first_cut passes clients n k b m n' h e d = d ∙ ap (λ (x : At T). (of_first x.0, [])) e ∙ ap (λ ns. (idle_view passes clients b ns, [])) (first_of-range n k h)
 
   pub rest_cut : (passes clients n k j : ℕ) (b : List ℕ) (m n' : At T) → 0 < k → k - 1 ≡ j → m ≡ (idle_view passes clients b (range n k), []) → n' ≡ (without_first m.0, m.1) → n' ≡ (idle_view passes clients b (range (n + 1) j), [])
-  rest_cut passes clients n k j b m n' h is e d = d ∙ ap (λ (x : At T). (without_first x.0, x.1)) e ∙ ap (λ ns. (idle_view passes clients b ns, [])) (after_first-range n k h ∙ ap (range (n + 1)) is)
+  rest_cut passes clients n k j b m n' h is e d = d ∙ ap (λ (x : At T). (without_first x.0, x.1)) e ∙ ap (λ ns. (idle_view passes clients b ns, [])) (rest_of-range n k h ∙ ap (range (n + 1)) is)

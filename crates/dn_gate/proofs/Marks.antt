@@ -6,9 +6,10 @@ use native.Mathlib.Decide.{dec_le}
 use lib.ListN.{get_elem?}
 use Rattle.atomic_table.specs.Table.{State}
 use Rattle.dn_gate.specs.Draws.{Draw}
-use Rattle.dn_gate.specs.Rule.{closed, total, many, once_below, at_place, included_of, includes, puts, sees, IsBefore, IsTold, IsKept}
+use Rattle.dn_counts.specs.Counts.{total, once_below}
+use Rattle.dn_gate.specs.Rule.{closed, many, at_place, included_of, includes, puts, sees, IsBefore, IsTold, IsKept}
 use Rattle.dn_gate.specs.declared.view.View.{View}
-use Rattle.dn_gate.proofs.Sums.{term_le, below_yes, below_no, below_more}
+use Rattle.dn_counts.proofs.Sums.{term_le, below_yes, below_no, below_more}
 use Rattle.dn_gate.proofs.Counted.{total_both, equal_sym, inside_of, inside_more}
 
 pub once_most : (b : Bool) → cond {A = ℕ} b 1 0 ≤ 1

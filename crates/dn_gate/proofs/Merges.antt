@@ -4,7 +4,8 @@ use mathlib.Core.Option.{some, some-injective, some-ne-none}
 use lib.ListN.{get_elem?}
 use Rattle.dn_gate.specs.Draws.{Draw}
 use Rattle.dn_gate.specs.Order.{IsMerge}
-use Rattle.dn_gate.specs.Rule.{total, insert_draw, merge_draws, Ascends}
+use Rattle.dn_counts.specs.Counts.{total}
+use Rattle.dn_gate.specs.Rule.{insert_draw, merge_draws, Ascends}
 
 abbrev pub Among : Draw → List Draw → Type 0
 Among d ds = (j : ℕ) × (get_elem? ds j ≡ some d)

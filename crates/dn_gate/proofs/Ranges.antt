@@ -4,9 +4,9 @@ use mathlib.Core.Logic.{dite}
 use mathlib.Core.Option.{some, some-injective, some-ne-none}
 use lib.ListN.{get_elem?}
 use native.Mathlib.Decide.{ℕ_discrete}
-use Rattle.dn_gate.specs.Rule.{times}
-use Rattle.dn_gate.specs.Opening.{range}
-use Rattle.dn_gate.proofs.Sums.{times-append, hit, miss}
+use Rattle.dn_counts.specs.Counts.{times}
+use Rattle.dn_counts.specs.Numbers.{range}
+use Rattle.dn_counts.proofs.Sums.{times-append, hit, miss}
 
 pub length-range : (n k : ℕ) → length (range n k) ≡ k
 length-range n zero = refl

@@ -31,7 +31,7 @@ module _ {T : Type 0} where
       no_more : (n : ℕ) → n + 0 ≡ n
       no_more n = omega arith
 
-      none_too : (o : Option ℕ) → Rattle.dn_gate.specs.Rule.either_one o None ≡ o
+      none_too : (o : Option ℕ) → Rattle.dn_counts.specs.Numbers.first_some o None ≡ o
       none_too None = refl
       none_too (Rattle.std.proofs.Common.Some n) = refl
 

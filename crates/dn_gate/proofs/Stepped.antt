@@ -5,7 +5,8 @@ use native.Mathlib.Decide.{dec_le}
 use mathlib.Core.Option.{none}
 use Rattle.atomic_table.specs.Table.{Step, step, rest}
 use Rattle.atomic_table.specs.Seated.{TableId}
-use Rattle.dn_gate.specs.Rule.{At, closed, drew_in, drew_late, marked, least, has_closing, Ascends, Draws, Marks}
+use Rattle.dn_counts.specs.Numbers.{least}
+use Rattle.dn_gate.specs.Rule.{At, closed, drew_in, drew_late, marked, has_closing, Ascends, Draws, Marks}
 use Rattle.dn_gate.specs.Pass.{PassView, pass_view, included, IsPass}
 
 module _ {T : Type 0} where

@@ -1,7 +1,8 @@
 -- What `collect` gives.
 use Rattle.std.specs.Prelude.{◌≡◌, ◌⊎◌, ℕ, List, [], ◌∷◌, ◌++◌, length, map}
 use Rattle.std.specs.List.{range_with_len}
-use Rattle.dn_gate.specs.Rule.{At, view, total, is_mark, took, puts, IsOnly}
+use Rattle.dn_counts.specs.Counts.{total}
+use Rattle.dn_gate.specs.Rule.{At, view, is_mark, took, puts, IsOnly}
 use Rattle.dn_gate.specs.Pass.{PassView}
 use Rattle.dn_gate.specs.declared.view.View.{View}
 use Rattle.dn_wire.specs.declared.ids.ClientId.{ClientId}

@@ -3,7 +3,8 @@ use Rattle.std.specs.Prelude.{◌≡◌, ℕ, ◌-◌, ◌<◌, List, [], ◌∷
 use Rattle.atomic_table.specs.Seated.{TableId}
 use Rattle.atomic_table.specs.Table.{Me}
 use Rattle.dn_gate.specs.Draws.{Draw}
-use Rattle.dn_gate.specs.Rule.{closed, least, view, has_closing, Ascends, IsIdle}
+use Rattle.dn_counts.specs.Numbers.{least}
+use Rattle.dn_gate.specs.Rule.{closed, view, has_closing, Ascends, IsIdle}
 use Rattle.dn_gate.specs.declared.view.View.{View}
 use Rattle.dn_wire.specs.declared.ids.ClientId.{ClientId}
 

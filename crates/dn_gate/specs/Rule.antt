@@ -3,6 +3,8 @@ use Rattle.std.specs.Prelude.{◌≡◌, ◌≢◌, ℕ, zero, suc, ◌+◌, ◌
 use mathlib.Core.Option.{some}
 use lib.ListN.{get_elem?}
 use Rattle.atomic_table.specs.Table.{State, Me, Step, rest}
+use Rattle.dn_counts.specs.Counts.{total, equal, once_below, times}
+use Rattle.dn_counts.specs.Numbers.{rest_of, first_of, least, first_some}
 use Rattle.dn_gate.specs.Draws.{Draw}
 use Rattle.dn_gate.specs.declared.view.View.{View}
 
@@ -10,36 +12,14 @@ use Rattle.dn_gate.specs.declared.view.View.{View}
 abbrev pub closed : ℕ
 closed = 4294967296
 
-abbrev pub total : {A : Type 0} → (A → ℕ) → List A → ℕ
-total f [] = 0
-total f (x ∷ xs) = f x + total f xs
-
 -- at how many of the numbers below n f isn't 0
 abbrev pub many : (ℕ → ℕ) → ℕ → ℕ
 many f zero = 0
 many f (suc n) = many f n + cond (nat_lt 0 (f n)) 1 0
 
-abbrev pub equal : ℕ → ℕ → ℕ
-equal y x = cond (y == x) 1 0
-
-abbrev pub once_below : ℕ → ℕ → ℕ
-once_below x n = cond (nat_lt x n) 1 0
-
-abbrev pub times : ℕ → List ℕ → ℕ
-times x xs = count_by (λ y. y == x) xs
-
 abbrev pub is_client : ℕ → Option ℕ → ℕ
 is_client i None = 0
 is_client i (Some c) = equal c i
-
--- all but the first, and the first alone
-abbrev pub after_first : List ℕ → List ℕ
-after_first [] = []
-after_first (w ∷ ws) = ws
-
-abbrev pub first_only : List ℕ → List ℕ
-first_only [] = []
-first_only (n ∷ ns) = n ∷ []
 
 -- 1 for a word that isn't free
 abbrev pub is_set : ℕ → ℕ
@@ -89,15 +69,6 @@ merge_draws (d ∷ ds) es = insert_draw d (merge_draws ds es)
 abbrev pub Ascends : List Draw → Type 0
 Ascends ds = (j k : ℕ) (d e : Draw) → j < k → get_elem? ds j ≡ some d → get_elem? ds k ≡ some e → d.place < e.place
 
-abbrev pub least : List ℕ → ℕ
-least [] = 0
-least (n ∷ []) = n
-least (n ∷ m ∷ ns) = Rattle.std.specs.Prelude.min n (least (m ∷ ns))
-
-abbrev pub either_one : Option ℕ → Option ℕ → Option ℕ
-either_one None b = b
-either_one (Some n) b = Some n
-
 abbrev pub At : Type 0 → Type 0
 At T = Me (Option T) (View T)
 
@@ -107,17 +78,17 @@ module _ {T : Type 0} where
       record { marker = record {}; passes = passes; clients = clients; before = before; numbers = numbers; claim = claim; unmarked = unmarked; draws = draws; values = values; repeats = repeats; closing = closing; looked = looked; taken = taken; right = right; refused = refused; closings = closings }
 
   abbrev pub joined : View T → View T → View T
-  joined v w = view v.passes v.clients v.before (v.numbers ++ w.numbers) v.claim v.unmarked (merge_draws v.draws w.draws) (v.values ++ w.values) (v.repeats ++ w.repeats) (either_one v.closing w.closing) (v.looked ++ w.looked) (v.taken ++ w.taken) (v.right + w.right) (v.refused ++ w.refused) (v.closings + w.closings)
+  joined v w = view v.passes v.clients v.before (v.numbers ++ w.numbers) v.claim v.unmarked (merge_draws v.draws w.draws) (v.values ++ w.values) (v.repeats ++ w.repeats) (first_some v.closing w.closing) (v.looked ++ w.looked) (v.taken ++ w.taken) (v.right + w.right) (v.refused ++ w.refused) (v.closings + w.closings)
 
   abbrev pub spent : View T
   spent = view 0 0 [] [] None None [] [] [] None [] [] 0 [] 0
 
   -- the first number goes to a new pass
   abbrev pub without_first : View T → View T
-  without_first v = view v.passes v.clients v.before (after_first v.numbers) v.claim v.unmarked v.draws v.values v.repeats v.closing v.looked v.taken v.right v.refused v.closings
+  without_first v = view v.passes v.clients v.before (rest_of v.numbers) v.claim v.unmarked v.draws v.values v.repeats v.closing v.looked v.taken v.right v.refused v.closings
 
   abbrev pub of_first : View T → View T
-  of_first v = view v.passes v.clients v.before (first_only v.numbers) None None [] [] [] None [] [] 0 [] 0
+  of_first v = view v.passes v.clients v.before (first_of v.numbers) None None [] [] [] None [] [] 0 [] 0
 
   -- the right goes to a closing
   abbrev pub without_right : View T → View T
@@ -205,7 +176,7 @@ module _ {T : Type 0} where
     pub numbers : total (λ v. length v.numbers) s.views ≡ passes
     pub once : (k : ℕ) → total (λ v. times k v.numbers) s.views ≤ 1
     pub control : slice_index s.words 0 ≡ total (λ v. length v.draws) s.views + cond (is_some cut) closed 0
-    pub few : total (λ v. length v.draws + cond (is_some v.claim) 1 0) s.views ≤ total is_set (after_first s.words)
+    pub few : total (λ v. length v.draws + cond (is_some v.claim) 1 0) s.views ≤ total is_set (rest_of s.words)
     pub places : (k : ℕ) → total (λ v. total (at_place k) v.draws) s.views ≡ once_below k (total (λ v. length v.draws) s.views)
     pub closings : total has_closing s.views ≡ cond (is_some cut) 1 0
     -- there is one right to take values, once the gate is closed

@@ -2,7 +2,8 @@
 ghost use Rattle.std.specs.Prelude.{◌≡◌, ◌≢◌, ◌⊎◌, ℕ, ◌+◌, ◌<◌, ◌≤◌, ◌++◌, [], None, IfOk, IfErr, MatchResult, List, length, map, vec_len, vec_capacity};
 ghost use Rattle.std.specs.List.{range_with_len};
 ghost use Rattle.std.specs.List.Sorted.{IsStrictlyIncreasing};
-ghost use Rattle.dn_gate.specs.Rule.{looked_at, looked_all, many, marked_count, marks_upto, is_mark, is_three, puts, times, total};
+ghost use Rattle.dn_counts.specs.Counts.{times, total};
+ghost use Rattle.dn_gate.specs.Rule.{looked_at, looked_all, many, marked_count, marks_upto, is_mark, is_three, puts};
 ghost use Rattle.dn_gate.specs.Pass.{IsReady, IsClosingOf};
 ghost use Rattle.dn_gate.specs.History.{IsHistory};
 ghost use Rattle.dn_gate.specs.Order.{in_order};

@@ -1,6 +1,7 @@
 // The gate.
 ghost use Rattle.std.specs.Prelude.{◌≡◌, ◌⊎◌, ℕ, ◌+◌, ◌<◌, ◌≤◌, ◌++◌, ◌∷◌, [], Some, None, IfOk, IfErr, IfSome, Option, List, All, length, map, slice_index, slice_get};
-ghost use Rattle.dn_gate.specs.Rule.{closed, least, was, merge_draws, either_one};
+ghost use Rattle.dn_counts.specs.Numbers.{least, first_some};
+ghost use Rattle.dn_gate.specs.Rule.{closed, was, merge_draws};
 ghost use Rattle.dn_gate.specs.History.{IsHistory};
 ghost use Rattle.dn_gate.specs.Order.{IsMerge};
 ghost use Rattle.dn_gate.specs.Pass.{IsReady, IsSamePass, included, came_late, IsFresh, IsNew, numbers_of};
@@ -90,14 +91,16 @@ impl<T: Drop> Gate<T> {
 
     /// Submits a value for the client. It is Included exactly where this call claimed the client and its draw found the gate
     /// open, Late where it claimed the client and its draw found the gate closed, and a Repeat where the client was there before
-    /// or had been claimed. Late and Repeat give the value back.
+    /// or had been claimed, by whichever pass. Late and Repeat give the value back. The call takes no memory.
     pub fn submit(&self, pass: &mut GatePass<T>, client: ClientId, value: T) -> Told<T>
         requires gate { (pass.old.gate ≡ self.now) × (client.0 < self.now.clients) }
         requires ready { IsReady pass.old }
         ensures pass { IsSamePass pass.old pass.new × IsReady pass.new × (pass.new.closing ≡ pass.old.closing) × (pass.new.refused ≡ pass.old.refused) }
-        ensures included { (place : ℕ) → result ≡ Told.Included place → (pass.new.draws ≡ pass.old.draws ++ included place client.0 ∷ []) × (pass.new.values ≡ pass.old.values ++ (client.0, value) ∷ []) × (pass.new.repeats ≡ pass.old.repeats) × (place < closed) × (pass.old.closing ≡ None) }
-        ensures late { (seen : ℕ) (back : T) → result ≡ Told.Late seen back → (back ≡ value) × (closed ≤ seen) × (pass.new.draws ≡ pass.old.draws ++ came_late client.0 seen ∷ []) × (pass.new.values ≡ pass.old.values) × (pass.new.repeats ≡ pass.old.repeats) }
-        ensures repeat { (back : T) → result ≡ Told.Repeat back → (back ≡ value) × (pass.new.draws ≡ pass.old.draws) × (pass.new.values ≡ pass.old.values) × (pass.new.repeats ≡ pass.old.repeats ++ (least pass.old.numbers, client.0) ∷ []) }
+        ensures included { (place : ℕ) → result ≡ Told.Included place → (place < closed) × (pass.old.closing ≡ None)
+            × (pass.new ≡ record pass.old { draws = pass.old.draws ++ included place client.0 ∷ []; values = pass.old.values ++ (client.0, value) ∷ [] }) }
+        ensures late { (seen : ℕ) (back : T) → result ≡ Told.Late seen back → (back ≡ value) × (closed ≤ seen)
+            × (pass.new ≡ record pass.old { draws = pass.old.draws ++ came_late client.0 seen ∷ [] }) }
+        ensures repeat { (back : T) → result ≡ Told.Repeat back → (back ≡ value) × (pass.new ≡ record pass.old { repeats = pass.old.repeats ++ (least pass.old.numbers, client.0) ∷ [] }) }
     {
         if !claim(self, pass, client) {
             return Told::Repeat { back: value };
@@ -112,14 +115,15 @@ impl<T: Drop> Gate<T> {
         }
     }
 
-    /// Closes the gate: each later draw comes late. AlreadyClosed comes exactly where the gate was found closed. The pass keeps
-    /// the word that was found, and a pass that stands for all finds there that one of its passes made the closing.
+    /// Closes the gate: each later draw comes late. AlreadyClosed comes exactly where the gate was found closed, which is where a call of
+    /// any pass closed it before. The pass keeps the word that was found, and a pass that stands for all finds there that one of its
+    /// passes made the closing.
     pub fn close(&self, pass: &mut GatePass<T>) -> Result<Closing<T>, AlreadyClosed>
         requires gate { pass.old.gate ≡ self.now }
         requires ready { IsReady pass.old }
-        ensures pass { IsSamePass pass.old pass.new × IsReady pass.new × (pass.new.draws ≡ pass.old.draws) × (pass.new.values ≡ pass.old.values) × (pass.new.repeats ≡ pass.old.repeats) }
-        ensures closed { IfOk result (λ c. (c.gate ≡ self.now) × (pass.old.closing ≡ None) × (pass.new.closing ≡ Some c.count) × (pass.new.refused ≡ pass.old.refused)) }
-        ensures already { IfErr result (λ e. (closed ≤ e.seen) × (pass.new.closing ≡ pass.old.closing) × (pass.new.refused ≡ pass.old.refused ++ e.seen ∷ [])) }
+        ensures pass { IsSamePass pass.old pass.new × IsReady pass.new }
+        ensures closed { IfOk result (λ c. (c.gate ≡ self.now) × (pass.old.closing ≡ None) × (pass.new ≡ record pass.old { closing = Some c.count })) }
+        ensures already { IfErr result (λ e. (closed ≤ e.seen) × (pass.new ≡ record pass.old { refused = pass.old.refused ++ e.seen ∷ [] })) }
         ensures kept { IfSome pass.old.closing (λ count. pass.new.closing ≡ Some count) }
     {
         let seen = self
@@ -143,7 +147,7 @@ impl<T: Drop> Gate<T> {
         requires ready { IsReady pass.old × IsReady other }
         ensures pass { (pass.new.gate ≡ pass.old.gate) × (pass.new.seat ≡ pass.old.seat) × IsReady pass.new }
         ensures numbers { pass.new.numbers ≡ pass.old.numbers ++ other.numbers }
-        ensures both { (pass.new.draws ≡ merge_draws pass.old.draws other.draws) × (pass.new.values ≡ pass.old.values ++ other.values) × (pass.new.repeats ≡ pass.old.repeats ++ other.repeats) × (pass.new.closing ≡ either_one pass.old.closing other.closing) }
+        ensures both { (pass.new.draws ≡ merge_draws pass.old.draws other.draws) × (pass.new.values ≡ pass.old.values ++ other.values) × (pass.new.repeats ≡ pass.old.repeats ++ other.repeats) × (pass.new.closing ≡ first_some pass.old.closing other.closing) }
         ensures collected { (pass.new.looked ≡ pass.old.looked ++ other.looked) × (pass.new.taken ≡ pass.old.taken ++ other.taken) }
         ensures refused { pass.new.refused ≡ pass.old.refused ++ other.refused }
 

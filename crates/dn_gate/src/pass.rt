@@ -1,6 +1,6 @@
 // A pass.
 ghost use Rattle.std.specs.Prelude.{◌≡◌};
-ghost use Rattle.dn_gate.specs.Rule.{least};
+ghost use Rattle.dn_counts.specs.Numbers.{least};
 
 use super::view::View;
 use atomic_table::Seat;

@@ -1,7 +1,8 @@
 //! The steps of a submission, each as a call. `Gate::submit` makes them all; a test makes some, and lets another pass work in
 //! between.
 ghost use Rattle.std.specs.Prelude.{◌≡◌, ℕ, ◌+◌, ◌-◌, ◌<◌, ◌≤◌, ◌++◌, ◌∷◌, [], Some, None, MatchBool, Option, List};
-ghost use Rattle.dn_gate.specs.Rule.{closed, least};
+ghost use Rattle.dn_counts.specs.Numbers.{least};
+ghost use Rattle.dn_gate.specs.Rule.{closed};
 ghost use Rattle.dn_gate.specs.Pass.{IsReady, included, came_late};
 
 use crate::gate::Gate;
@@ -21,10 +22,12 @@ pub enum Drawn {
     Late { seen: u64 },
 }
 
-/// Claims the client, and takes its slot out: true where its word was free. Else the call is a repeat.
+/// Claims the client, and takes its slot out: true where its word was free. Else the call is a repeat. A pass that isn't in mid-call
+/// holds no slot.
 pub fn claim<T: Drop>(gate: &Gate<T>, pass: &mut GatePass<T>, client: ClientId) -> bool
     requires gate { (pass.old.gate ≡ gate.now) × (client.0 < gate.now.clients) }
     requires ready { IsReady pass.old }
+    ensures empty { pass.old.held ≡ [] }
     ensures claimed { MatchBool result (pass.new ≡ record pass.old { claim = Some client.0; held = (client.0, None) ∷ [] }) (pass.new ≡ record pass.old { repeats = pass.old.repeats ++ (least pass.old.numbers, client.0) ∷ [] }) }
 {
     gate.table

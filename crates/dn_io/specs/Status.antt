@@ -3,6 +3,10 @@ use Rattle.std.specs.Prelude.{ℕ, List, [], ◌++◌, codes}
 use Rattle.std.specs.Fmt.{decimal}
 use Rattle.dn_io.specs.declared.status.Status.{Status}
 use Rattle.dn_io.specs.declared.status.Status.TheVariants.{Ok, NotAccepted, Usage, ReadFault, WriteFault, BadLine, TooLong, NoMemory}
+use Rattle.dn_io.specs.declared.reading.ReadEnd.{ReadEnd}
+use Rattle.dn_io.specs.declared.reading.ReadEnd.TheVariants as reading
+use Rattle.dn_io.specs.declared.writing.WriteEnd.{WriteEnd}
+use Rattle.dn_io.specs.declared.writing.WriteEnd.TheVariants as writing
 use Rattle.dn_io.specs.Cause.{cause_text}
 use Rattle.dn_io.specs.Rule.{rule_text}
 
@@ -27,3 +31,14 @@ exit_number WriteFault = 4
 exit_number (BadLine number cause) = 5
 exit_number (TooLong limit) = 6
 exit_number NoMemory = 7
+
+-- the status of a command whose input was not read whole
+abbrev pub read_status : ReadEnd → Status
+read_status reading.ReadFault = ReadFault
+read_status (reading.TooLong limit) = TooLong limit
+read_status reading.NoMemory = NoMemory
+
+-- the status of a command whose output was not written whole
+abbrev pub write_status : WriteEnd → Status
+write_status writing.WriteFault = WriteFault
+write_status writing.NoMemory = NoMemory

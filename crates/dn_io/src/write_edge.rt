@@ -1,8 +1,10 @@
 ghost use Rattle.std.specs.Prelude.{◌≡◌, OnOk, OnErr, IfErr};
+ghost use Rattle.std.specs.Io.KnownBytes.{Keeps};
 ghost use Rattle.dn_io.specs.Faults.{one_more};
 ghost use Rattle.dn_io.specs.Sink.{CountsPut, PutAppends, PutsSome};
 
 use crate::sink::{Sink, SinkEnd};
+use crate::writing::WriteEnd;
 use std::io::Write;
 use std::marker::Model;
 
@@ -28,6 +30,22 @@ impl<W: Write> WriteEdge<W> {
         ensures faults { result.faults ≡ 0 }
     {
         WriteEdge { writer, faults: 0 }
+    }
+
+    /// Has the writer hand on what it keeps back. Fails where the writer does, and the count rises then.
+    pub fn flush(&mut self) -> Result<(), WriteEnd>
+        ensures bytes { Keeps (W.contents self.old.inner) (W.contents self.new.inner) }
+        ensures outside { IfErr result (λ e. e ≡ WriteEnd.WriteFault) }
+        ensures counted { OnErr result (self.new.faults ≡ one_more self.old.faults) }
+        ensures calm { OnOk result (self.new.faults ≡ self.old.faults) }
+    {
+        match self.writer.flush() {
+            Ok(()) => Ok(()),
+            Err(_) => {
+                self.faults = self.faults.saturating_add(1);
+                Err(WriteEnd::WriteFault)
+            }
+        }
     }
 }
 

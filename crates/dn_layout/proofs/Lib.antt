@@ -2,3 +2,4 @@ pub mod LayoutLemmas
 pub mod MaskLemmas
 pub mod RangeLemmas
 pub mod RoundTrip
+pub mod LengthLemmas

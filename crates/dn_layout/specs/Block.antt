@@ -3,13 +3,14 @@ use Rattle.std.specs.Prelude.{ℕ, ◌+◌, ◌-◌, ◌*◌, ◌==◌, ◌&&◌
 use Rattle.std.specs.Int.{w16, to_be_bytes}
 use Rattle.std.specs.List.{list_all}
 use Rattle.std.specs.Str.{bytes_eq}
+use Rattle.dn_wire.specs.declared.limits.TheConstants.{MIN_SLOT_BYTES, MAX_SLOT_BYTES}
 use Rattle.dn_bits.specs.Bits.{below}
 use Rattle.dn_pads.specs.Pads.{keystream_byte}
 use Rattle.dn_hash.specs.Digests.{mask_key_of, block_check_of}
 
 -- the next length that a block may tell: 0, or a slot's length
 abbrev pub is_length : ℕ → Bool
-is_length n = n == 0 || (nat_le 64 n && nat_le n 1024)
+is_length n = n == 0 || (nat_le MIN_SLOT_BYTES n && nat_le n MAX_SLOT_BYTES)
 
 -- bytes added to the ChaCha20 keystream of a key, stream 0 from place 0
 unfoldable pub masked : List ℕ → List ℕ → List ℕ
@@ -52,5 +53,5 @@ is_message plain =
 -- the next length and the text that bytes are read as; nothing where they are garbled
 unfoldable pub read_of : List ℕ → Option (ℕ × List ℕ)
 read_of bytes =
-    if nat_le 64 (length bytes) && nat_le (length bytes) 1024 && is_message (plain_of bytes)
+    if nat_le MIN_SLOT_BYTES (length bytes) && nat_le (length bytes) MAX_SLOT_BYTES && is_message (plain_of bytes)
     then Some (next_len_of (plain_of bytes), text_of (plain_of bytes)) else None

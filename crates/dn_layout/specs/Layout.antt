@@ -1,5 +1,6 @@
 -- The slots of a round: their places, and their lengths after its output.
 use Rattle.std.specs.Prelude.{ℕ, ◌+◌, ◌*◌, ◌/◌, ◌≤◌, ◌==◌, nat_le, Bool, List, [], ◌∷◌, map, length, take, drop, sum, slice_index, Option, Some, None, All, IsTrue, if◌then◌else◌}
+use Rattle.dn_wire.specs.declared.limits.TheConstants.{MAX_BITS, MAX_CLIENTS, MIN_SLOT_BYTES}
 use Rattle.dn_bits.specs.Bits.{below, bit, bytes_of}
 use Rattle.dn_layout.specs.Block.{is_length, is_zeros, read_of}
 
@@ -33,16 +34,16 @@ want_open len block None = if is_zeros block then 0 else len
 -- what a slot of this length wants, from its request bit and its block
 unfoldable pub want_of : ℕ → Bool → List ℕ → ℕ
 want_of len requested block =
-    if len == 0 then (if requested then 64 else 0) else want_open len block (read_of block)
+    if len == 0 then (if requested then MIN_SLOT_BYTES else 0) else want_open len block (read_of block)
 
 -- what each slot wants after an output
 abbrev pub wants_of : List ℕ → List Bool → List ℕ
 wants_of lengths out = map (λ s. want_of (slice_index lengths s) (bit out s) (slot_bytes lengths out s)) (below (length lengths))
 
 -- what a slot gets that wants so many bytes, in a round that has `total` bytes without it: what it wants where the round then has at
--- most 65536 bits, and else nothing
+-- most the bits that a round may have, and else nothing
 abbrev pub given_of : ℕ → ℕ → ℕ
-given_of total want = if nat_le (8 * (total + want)) 65536 then want else 0
+given_of total want = if nat_le (8 * (total + want)) MAX_BITS then want else 0
 
 -- what the slots get, in order, in a round that has `total` bytes without them
 abbrev pub fitted : ℕ → List ℕ → List ℕ
@@ -53,9 +54,10 @@ fitted total (want ∷ wants) = given_of total want ∷ fitted (total + given_of
 unfoldable pub next_of : List ℕ → List Bool → List ℕ
 next_of lengths out = fitted (request_bytes (length lengths)) (wants_of lengths out)
 
--- the lengths of a layout: of 1 to 512 slots, each closed or of 64 to 1024 bytes, and at most 65536 bits in all
+-- the lengths of a layout: of at least one slot and at most as many as a group has clients, each closed or as long as an open slot may
+-- be, and with at most the bits of a round in all
 pub record IsLayout (lengths : List ℕ) : Type 0 where
   pub some : 1 ≤ length lengths
-  pub few : length lengths ≤ 512
+  pub few : length lengths ≤ MAX_CLIENTS
   pub sizes : All (λ len. IsTrue (is_length len)) lengths
-  pub fits : bits_of lengths ≤ 65536
+  pub fits : bits_of lengths ≤ MAX_BITS

@@ -1,5 +1,5 @@
 // Layouts.
-ghost use Rattle.std.specs.Prelude.{◌≡◌, ◌+◌, ◌*◌, ◌<◌, ◌≤◌, length, replicate, sum, IfOk, IfSome, IsSome, ◌↔◌};
+ghost use Rattle.std.specs.Prelude.{◌≡◌, ◌+◌, ◌*◌, ◌<◌, ◌≤◌, length, replicate, sum, slice_index, IfOk, IfSome, IsSome, ◌↔◌};
 ghost use Rattle.dn_bits.specs.Bits.{bytes_of};
 ghost use Rattle.dn_layout.specs.Layout.{bits_of, range_of, next_of, want_of, given_of, IsLayout};
 
@@ -7,7 +7,7 @@ use crate::plain::{is_length, is_message, is_zeros, next_len};
 use crate::reading::unmasked;
 use dn_bits::Bits;
 use dn_memory::NoMemory;
-use dn_wire::{MAX_BITS, MIN_SLOT_BYTES, SlotId};
+use dn_wire::{MAX_BITS, MAX_CLIENTS, MAX_SLOT_BYTES, MIN_SLOT_BYTES, SlotId};
 use std::alloc::Global;
 use std::marker::Model;
 
@@ -31,7 +31,7 @@ impl Model for Layout {
 
 /// The sum of some lengths.
 fn sum_of(lengths: &[u16]) -> u32
-    requires { length lengths.now ≤ 512 }
+    requires { length lengths.now ≤ MAX_CLIENTS }
     ensures sum { result ≡ sum lengths.now }
     ensures bound { result ≤ 65535 * length lengths.now }
 {
@@ -63,7 +63,7 @@ fn want(alloc: Global, len: u16, is_requested: bool, block: &[u8]) -> Result<u16
             0
         });
     }
-    if 64 <= block.len() && block.len() <= 1024 {
+    if MIN_SLOT_BYTES as usize <= block.len() && block.len() <= MAX_SLOT_BYTES as usize {
         let plain = unmasked(alloc, block)?;
         if is_message(&plain) {
             return Ok(next_len(&plain));
@@ -74,7 +74,7 @@ fn want(alloc: Global, len: u16, is_requested: bool, block: &[u8]) -> Result<u16
 
 /// What a slot gets that wants so many bytes, in a round that has `total` bytes without it.
 fn given(total: u32, want: u16) -> u16
-    requires { total ≤ 65536 }
+    requires { total ≤ MAX_BITS }
     ensures { result ≡ given_of total want }
 {
     if 8 * (total + u32::from(want)) <= MAX_BITS {
@@ -114,7 +114,7 @@ impl Layout {
     /// The layout of n slots, all closed.
     pub fn first(alloc: Global, n: u32) -> Result<Layout, NoMemory>
         requires low { 1 ≤ n }
-        requires high { n ≤ 512 }
+        requires high { n ≤ MAX_CLIENTS }
         ensures { IfOk result (λ l. l ≡ replicate n 0) }
     {
         Ok(of_lengths(vec![in alloc; 0; n as usize]?))
@@ -126,7 +126,10 @@ impl Layout {
         ensures layout { IsSome result ↔ IsLayout lengths.items }
         ensures value { IfSome result (λ l. l ≡ lengths.items) }
     {
-        if lengths.is_empty() || lengths.len() > 512 || !lengths.iter().all(|len| is_length(*len)) {
+        if lengths.is_empty()
+            || lengths.len() > MAX_CLIENTS as usize
+            || !lengths.iter().all(|len| is_length(*len))
+        {
             return None;
         }
         let bytes = (lengths.len() as u32).div_ceil(8) + sum_of(&lengths);
@@ -157,9 +160,21 @@ impl Layout {
     /// How many bits the round has: a request bit for each slot, zeros up to a whole byte, and the open slots' blocks.
     pub fn bits(&self) -> u32
         ensures bits { result ≡ bits_of self.now }
-        ensures limit { result ≤ 65536 }
+        ensures limit { result ≤ MAX_BITS }
+        ensures layout { IsLayout self.now }
     {
         self.bits
+    }
+
+    /// The length in bytes of slot s, and 0 where it is closed or there is no such slot.
+    pub fn size(&self, s: SlotId) -> u16
+        ensures size { result ≡ slice_index self.now s.0 }
+        ensures layout { IsLayout self.now }
+    {
+        match self.lengths.get(s.0 as usize) {
+            Some(len) => *len,
+            None => 0,
+        }
     }
 
     /// The first place of slot s and the place past its last, and nothing where it is closed or there is no such slot.

@@ -10,7 +10,7 @@ mod plain;
 mod reading;
 mod writing;
 
-pub use laws::{block_round_trip, ranges_part_the_round};
+pub use laws::{block_round_trip, blocks_fill_their_slots, ranges_part_the_round, slots_stay};
 pub use layout::Layout;
 pub use reading::{Block, read_block};
 pub use writing::{BlockFault, block};

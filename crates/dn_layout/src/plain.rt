@@ -27,7 +27,7 @@ pub fn is_zeros(bytes: &[u8]) -> bool
 #[tactic(auto, using(std::proofs::lemmas::Grind::common_steps), unfolding(crate::specs::Block::rest_of))]
 pub fn rest(alloc: Global, text: &[u8], next_len: u16, size: u16) -> Result<Vec<u8>, NoMemory>
     requires room { 28 + length text.now ≤ size }
-    requires size { size ≤ 1024 }
+    requires size { size ≤ MAX_SLOT_BYTES }
     ensures { IfOk result (λ v. v.items ≡ rest_of next_len text.now size) }
 {
     let mut rest = Vec::with_capacity(alloc, size as usize)?;

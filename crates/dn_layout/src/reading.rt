@@ -7,6 +7,7 @@ use crate::mask::mask;
 use crate::plain::{is_message, next_len, text_len};
 use dn_hash::mask_key;
 use dn_memory::NoMemory;
+use dn_wire::{MAX_SLOT_BYTES, MIN_SLOT_BYTES};
 use std::alloc::Global;
 
 /// What the bytes of an open slot are read as.
@@ -23,7 +24,7 @@ pub enum Block {
 pub fn read_block(alloc: Global, bytes: &[u8]) -> Result<Block, NoMemory>
     ensures { IfOk result (λ b. message_of b ≡ read_of bytes.now) }
 {
-    if bytes.len() < 64 || bytes.len() > 1024 {
+    if bytes.len() < MIN_SLOT_BYTES as usize || bytes.len() > MAX_SLOT_BYTES as usize {
         return Ok(Block::Garbled);
     }
     let plain = unmasked(alloc, bytes)?;

@@ -1,5 +1,6 @@
 // Blocks of a text.
 ghost use Rattle.std.specs.Prelude.{◌≡◌, ◌+◌, ◌-◌, ◌<◌, ◌≤◌, ◌↔◌, length, IfOk, IfErr, IsTrue};
+ghost use Rattle.dn_wire.specs.declared.limits.TheConstants.{MIN_SLOT_BYTES, MAX_SLOT_BYTES};
 ghost use Rattle.dn_layout.specs.Block.{is_length, block_of};
 ghost use Rattle.dn_layout.specs.Fault.{IsTooLong, TooLongNumbers};
 
@@ -38,8 +39,8 @@ pub fn block(
     mask_seed: &[u8; 16],
     size: u16,
 ) -> Result<Vec<u8>, BlockFault>
-    requires low { 64 ≤ size }
-    requires high { size ≤ 1024 }
+    requires low { MIN_SLOT_BYTES ≤ size }
+    requires high { size ≤ MAX_SLOT_BYTES }
     requires next { IsTrue (is_length next_len) }
     ensures ok { IfOk result (λ v. v.items ≡ block_of msg.now next_len mask_seed.now size) }
     ensures too_long { IsTooLong result ↔ (size - 28 < length msg.now) }
@@ -65,7 +66,7 @@ fn masked_block(
     size: u16,
 ) -> Result<Vec<u8>, NoMemory>
     requires room { 28 + length msg.now ≤ size }
-    requires size { size ≤ 1024 }
+    requires size { size ≤ MAX_SLOT_BYTES }
     ensures { IfOk result (λ v. v.items ≡ block_of msg.now next_len mask_seed.now size) }
 {
     let rest = rest(alloc, msg, next_len, size)?;

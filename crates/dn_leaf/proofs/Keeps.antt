@@ -5,10 +5,12 @@ use native.Mathlib.Decide.{dec_le}
 use lib.ListN.{get_elem?}
 use Rattle.atomic_table.specs.Table.{State, Me, Step, step, keeps, stepped, opening, Allows, Splits, Joins}
 use Rattle.atomic_table.proofs.Lists.{at_set, at_snoc, set_else}
-use Rattle.dn_leaf.specs.Counts.{total, times, once_below, IsDistinctBelow, HasEachOnce}
-use Rattle.dn_leaf.specs.Rule.{view, first_view, less_one, one_of, first_seen, joined, spent, after_look, after_draw, over, Fits, IsKept, Knows, IsPass, Looks, Draws}
+use Rattle.dn_counts.specs.Counts.{total, times, once_below}
+use Rattle.dn_leaf.specs.Counts.{IsDistinctBelow, HasEachOnce}
+use Rattle.dn_counts.specs.Numbers.{first_some}
+use Rattle.dn_leaf.specs.Rule.{view, first_view, less_one, one_of, joined, spent, after_look, after_draw, over, Fits, IsKept, Knows, IsPass, Looks, Draws}
 use Rattle.dn_leaf.specs.declared.view.View.{View}
-use Rattle.dn_leaf.proofs.Sums.{total-append, total-set, term_le, total_le, whole, times-append, times-push, below_yes, below_no, below_more, set_over}
+use Rattle.dn_counts.proofs.Sums.{total-append, total-set, term_le, total_le, whole, times-append, times-push, below_yes, below_no, below_more, set_over}
 
 abbrev S : Type 0
 S = Unit {0}
@@ -81,12 +83,12 @@ limits : (c p : ℕ) (s : St) (k : IsKept c p s) (id : ℕ) (v : View) → get_e
 limits c p s k id v at live = ⊎_elim (λ e. absurd (omega arith)) (λ e. e) (k.fits id v at).limits
 
 -- what a look does to the value seen: it stays, or it is the word, which is then at the count or above
-seen_after : (c n : ℕ) (o : Option ℕ) (b : Rattle.std.specs.Prelude.Bool) → IfSome o (λ m. (c ≤ m) × (m ≤ n)) → (b ≡ Rattle.std.specs.Prelude.true → c ≤ n) → IfSome (first_seen o (cond b (Some n) None)) (λ m. (c ≤ m) × (m ≤ n))
+seen_after : (c n : ℕ) (o : Option ℕ) (b : Rattle.std.specs.Prelude.Bool) → IfSome o (λ m. (c ≤ m) × (m ≤ n)) → (b ≡ Rattle.std.specs.Prelude.true → c ≤ n) → IfSome (first_some o (cond b (Some n) None)) (λ m. (c ≤ m) × (m ≤ n))
 seen_after c n None Rattle.std.specs.Prelude.true h t = (t refl, omega arith)
 seen_after c n None Rattle.std.specs.Prelude.false h t = tt
 seen_after c n (Some m) b h t = h
 
-over_after : (c n d : ℕ) (o p : Option ℕ) → cond (is_some o) d 0 ≤ cond (is_some (first_seen o p)) d 0
+over_after : (c n d : ℕ) (o p : Option ℕ) → cond (is_some o) d 0 ≤ cond (is_some (first_some o p)) d 0
 over_after c n d None None = omega arith
 over_after c n d None (Some m) = omega arith
 over_after c n d (Some m) p = omega arith
@@ -216,13 +218,13 @@ splits c p id k more s h at =
           (at_snoc (set s.views id w) u y j e);
     }
 
-over_joined : (a b : ℕ) (o q : Option ℕ) → cond (is_some o) a 0 + cond (is_some q) b 0 ≤ cond (is_some (first_seen o q)) (a + b) 0
+over_joined : (a b : ℕ) (o q : Option ℕ) → cond (is_some o) a 0 + cond (is_some q) b 0 ≤ cond (is_some (first_some o q)) (a + b) 0
 over_joined a b None None = omega arith
 over_joined a b None (Some n) = omega arith
 over_joined a b (Some m) None = omega arith
 over_joined a b (Some m) (Some n) = omega arith
 
-seen_joined : (c n : ℕ) (o q : Option ℕ) → IfSome o (λ m. (c ≤ m) × (m ≤ n)) → IfSome q (λ m. (c ≤ m) × (m ≤ n)) → IfSome (first_seen o q) (λ m. (c ≤ m) × (m ≤ n))
+seen_joined : (c n : ℕ) (o q : Option ℕ) → IfSome o (λ m. (c ≤ m) × (m ≤ n)) → IfSome q (λ m. (c ≤ m) × (m ≤ n)) → IfSome (first_some o q) (λ m. (c ≤ m) × (m ≤ n))
 seen_joined c n None q a b = b
 seen_joined c n (Some m) q a b = a
 

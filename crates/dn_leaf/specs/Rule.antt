@@ -3,7 +3,9 @@ use Rattle.std.specs.Prelude.{◌≡◌, ℕ, ◌+◌, ◌-◌, ◌<◌, ◌≤�
 use mathlib.Core.Option.{some}
 use lib.ListN.{get_elem?}
 use Rattle.atomic_table.specs.Table.{State, Me, Step}
-use Rattle.dn_leaf.specs.Counts.{total, times, once_below, IsDistinctBelow, HasEachOnce}
+use Rattle.dn_counts.specs.Numbers.{first_some}
+use Rattle.dn_counts.specs.Counts.{total, times, once_below}
+use Rattle.dn_leaf.specs.Counts.{IsDistinctBelow, HasEachOnce}
 use Rattle.dn_leaf.specs.declared.view.View.{View}
 
 abbrev pub view : ℕ → ℕ → ℕ → List ℕ → Option ℕ → View
@@ -18,17 +20,12 @@ less_one v = view v.count v.passes (v.stands - 1) v.draws v.seen
 abbrev pub one_of : View → View
 one_of v = view v.count v.passes 1 [] None
 
--- the value of the first, or else of the second
-abbrev pub first_seen : Option ℕ → Option ℕ → Option ℕ
-first_seen None b = b
-first_seen (Some n) b = Some n
-
 -- the word, where it is at the count or above
 abbrev pub past_count : ℕ → ℕ → Option ℕ
 past_count count word = cond (nat_le count word) (Some word) None
 
 abbrev pub joined : View → View → View
-joined v w = view v.count v.passes (v.stands + w.stands) (v.draws ++ w.draws) (first_seen v.seen w.seen)
+joined v w = view v.count v.passes (v.stands + w.stands) (v.draws ++ w.draws) (first_some v.seen w.seen)
 
 -- what another pass took in: it stands for none
 abbrev pub spent : View
@@ -36,7 +33,7 @@ spent = view 0 0 0 [] None
 
 -- a look keeps the value that was seen first
 abbrev pub after_look : View → ℕ → View
-after_look v word = view v.count v.passes v.stands v.draws (first_seen v.seen (past_count v.count word))
+after_look v word = view v.count v.passes v.stands v.draws (first_some v.seen (past_count v.count word))
 
 abbrev pub after_draw : View → ℕ → View
 after_draw v word = cond (nat_lt word v.count) (view v.count v.passes v.stands (v.draws ++ word ∷ []) None) (view v.count v.passes v.stands v.draws (Some word))

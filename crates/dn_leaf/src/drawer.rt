@@ -1,7 +1,8 @@
 ghost use Rattle.std.specs.Prelude.{◌≡◌, ◌+◌, ◌<◌, ◌≤◌, ◌++◌, ◌∷◌, [], min, length, replicate, Some, None, IfOk, IfErr, IfSome, MatchResult};
 ghost use Rattle.dn_leaf.specs.Counts.{IsDistinctBelow, HasEachOnce};
 ghost use Rattle.dn_leaf.specs.Drawer.{fresh, IsSamePass};
-ghost use Rattle.dn_leaf.specs.Rule.{first_seen, past_count};
+ghost use Rattle.dn_counts.specs.Numbers.{first_some};
+ghost use Rattle.dn_leaf.specs.Rule.{past_count};
 
 use super::rule::{Both, Draw, Leaves, Limits, Look, One};
 use super::view::View;
@@ -110,7 +111,7 @@ impl Drawer {
     pub fn look(&self, pass: &mut LeafPass) -> u64
         requires { pass.old.drawer ≡ self.now }
         ensures pass { IsSamePass pass.old pass.new × (pass.new.draws ≡ pass.old.draws) }
-        ensures seen { pass.new.seen ≡ first_seen pass.old.seen (past_count self.now.count result) }
+        ensures seen { pass.new.seen ≡ first_some pass.old.seen (past_count self.now.count result) }
         ensures past { IfSome pass.new.seen (λ n. (self.now.count ≤ n) × (n ≤ result)) }
         ensures bound { result ≤ self.now.count + self.now.passes }
 
@@ -129,7 +130,7 @@ impl Drawer {
         requires { (pass.old.drawer ≡ self.now) × (other.drawer ≡ self.now) }
         ensures pass { (pass.new.drawer ≡ pass.old.drawer) × (pass.new.stands ≡ pass.old.stands + other.stands) }
         ensures draws { pass.new.draws ≡ pass.old.draws ++ other.draws }
-        ensures again { IfSome (first_seen pass.old.seen other.seen) (λ n. pass.new.seen ≡ Some n) }
+        ensures again { IfSome (first_some pass.old.seen other.seen) (λ n. pass.new.seen ≡ Some n) }
         ensures past { IfSome pass.new.seen (λ n. self.now.count ≤ n) }
         ensures apart { IsDistinctBelow pass.new.draws self.now.count }
     {
@@ -141,7 +142,7 @@ impl Drawer {
 }
 
 fn earlier(first: Option<u64>, second: Option<u64>) -> Option<u64>
-    ensures { result ≡ first_seen first second }
+    ensures { result ≡ first_some first second }
 {
     match first {
         Some(seen) => Some(seen),
@@ -151,7 +152,7 @@ fn earlier(first: Option<u64>, second: Option<u64>) -> Option<u64>
 
 // What a pass has seen after a look that found this many draws.
 fn noted(seen: Option<u64>, count: u32, found: u64) -> Option<u64>
-    ensures { result ≡ first_seen seen (past_count count found) }
+    ensures { result ≡ first_some seen (past_count count found) }
 {
     if found >= count as u64 {
         earlier(seen, Some(found))

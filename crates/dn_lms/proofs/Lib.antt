@@ -1,3 +1,4 @@
 pub mod TreeLemmas
 pub mod VerifyLemmas
 pub mod PairLemmas
+pub mod SizeLemmas

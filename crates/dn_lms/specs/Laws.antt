@@ -132,7 +132,7 @@ length-root : (key : Key) → length (root key) ≡ 32
 unfolding root
 length-root key = length-node key (height key.lms) 1
 
-length-public_key : (key : Key) → IsKey key → length (public_key key) ≡ 56
+pub length-public_key : (key : Key) → IsKey key → length (public_key key) ≡ 56
 unfolding public_key
 length-public_key key k =
     let codes : length (to_be_bytes w32 key.lms ++ to_be_bytes w32 key.ots) ≡ 8 = refl in
@@ -171,7 +171,7 @@ after_four key q msg = ap (drop 4) (signature_is key q msg)
 ots_long : (key : Key) (q : ℕ) (msg : List ℕ) → length (ots_signature key.ots key.id q key.seed msg) ≡ ots_length key.ots
 ots_long key q msg = length-ots_signature key.ots key.id key.seed msg q
 
-length-lms_signature : (key : Key) (q : ℕ) (msg : List ℕ) → length (lms_signature key q msg) ≡ lms_length key.lms key.ots
+pub length-lms_signature : (key : Key) (q : ℕ) (msg : List ℕ) → length (lms_signature key q msg) ≡ lms_length key.lms key.ots
 unfolding lms_length
 length-lms_signature key q msg =
     let path = length-joined (path_node key q) (height key.lms) (length-path_node key q) in

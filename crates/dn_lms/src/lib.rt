@@ -5,6 +5,7 @@
 #![tactic(auto)]
 
 mod key;
+mod laws;
 mod nodes;
 mod pair;
 #[cfg(test)]
@@ -13,5 +14,6 @@ mod tree;
 mod verifier;
 
 pub use key::SigKey;
+pub use laws::{lengths_go_by_codes, what_verifies_is_short};
 pub use pair::{KeyFault, KeyPair};
 pub use verifier::verify;

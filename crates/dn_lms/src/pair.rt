@@ -8,7 +8,7 @@ use crate::nodes::is_known;
 use crate::tree::{append_path, leaves_of, tree_of};
 use crate::verifier::verify;
 use dn_memory::NoMemory;
-use dn_ots::{Params, UnknownType, ots_sign};
+use dn_ots::{Params, UnknownType, append_signature};
 use std::alloc::Global;
 use std::marker::Model;
 
@@ -141,7 +141,7 @@ impl SigKey for KeyPair {
     fn sign_at(&self, alloc: Global, q: u32, msg: &[u8]) -> Result<Vec<u8>, NoMemory> {
         let mut sig = Vec::with_capacity(alloc, 12 + self.params.sig_len as usize + 480)?;
         sig.extend_from_slice(&q.to_be_bytes())?;
-        sig.extend_from_slice(&ots_sign(alloc, self.params, &self.id, q, &self.seed, msg)?)?;
+        append_signature(&mut sig, self.params, &self.id, q, &self.seed, msg)?;
         sig.extend_from_slice(&self.lms.to_be_bytes())?;
         append_path(&self.tree, self.lms, q, &mut sig)?;
         Ok(sig)

@@ -18,4 +18,4 @@ mod tests;
 pub use candidates::candidate;
 pub use parameters::{Params, UnknownType};
 pub use public_keys::{ots_public, ots_public_four};
-pub use signatures::ots_sign;
+pub use signatures::{append_signature, ots_sign};

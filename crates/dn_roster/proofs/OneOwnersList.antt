@@ -11,7 +11,7 @@ use native.Mathlib.Decide.{ℕ_discrete}
 use Rattle.dn_wire.specs.declared.ids.ClientId.{ClientId}
 use Rattle.dn_roster.specs.declared.group.GroupSpec.{GroupSpec}
 use Rattle.dn_roster.specs.Dealing.{owner_number}
-use Rattle.dn_roster.specs.Owners.{IsOwners, client, comes_before}
+use Rattle.dn_roster.specs.Owners.{IsOwners, client_id, comes_before}
 
 -- ---- the order
 
@@ -57,10 +57,10 @@ hit : (x : ClientId) (xs : List ClientId) → 0 < times x.0 (x ∷ xs)
 hit x xs = omega (arith, step x xs x.0, ap (λ b. cond {A = ℕ} b 1 0) (eq-eqb x.0 x.0 refl))
 
 -- who stands in a list has what all in it have
-found : (P : ClientId → Type 0) (xs : List ClientId) (i : ℕ) → All P xs → 0 < times i xs → P (client i)
+found : (P : ClientId → Type 0) (xs : List ClientId) (i : ℕ) → All P xs → 0 < times i xs → P (client_id i)
 found P [] i all some = absurd (omega arith)
 found P (x ∷ xs) i all some = dite (ℕ_discrete x.0 i)
-    (λ e. subst (λ n. P (client n)) e (All-head P x xs all))
+    (λ e. subst (λ n. P (client_id n)) e (All-head P x xs all))
     (λ ne. found P xs i (All-tail P x xs all) (omega (arith, some, step x xs i, ap (λ b. cond {A = ℕ} b 1 0) (ne_eqb x.0 i ne))))
 
 -- ---- one list
@@ -83,7 +83,7 @@ same_sorted seed (x ∷ xs) (y ∷ ys) a b same =
     let e : x.0 ≡ y.0 = first_alike seed x y xs ys a b same in
     let rest : (i : ℕ) → times i xs ≡ times i ys = λ i. omega (arith, same i, step x xs i, step y ys i, ap (λ n. cond {A = ℕ} (n == i) 1 0) e) in
     let tails = same_sorted seed xs ys (sorted_rest seed x xs a) (sorted_rest seed y ys b) rest in
-    λ k. client (e k) ∷ tails k
+    λ k. client_id (e k) ∷ tails k
 
 pub one_list : (group : GroupSpec) (xs ys : List ClientId) → IsOwners group xs → IsOwners group ys → xs ≡ ys
 one_list group xs ys a b = same_sorted group.seed xs ys a.ordered b.ordered (λ i. a.once i ∙ sym (b.once i))

@@ -15,7 +15,7 @@ use Rattle.std.proofs.lemmas.Map.Views.{All-map-IsPermutation}
 use Rattle.dn_wire.specs.declared.ids.ClientId.{ClientId}
 use Rattle.dn_roster.specs.declared.group.GroupSpec.{GroupSpec}
 use Rattle.dn_roster.specs.Dealing.{owner_number}
-use Rattle.dn_roster.specs.Owners.{IsOwners, client, numbered, comes_before}
+use Rattle.dn_roster.specs.Owners.{IsOwners, client_id, numbered, comes_before}
 
 abbrev Pair : Type 0
 Pair = ℕ × ClientId
@@ -31,9 +31,9 @@ by_both false true false true = refl
 by_both false true false false = refl
 by_both false false c d = refl
 
-map_second : (seed : List ℕ) (xs : List ℕ) → map (λ (p : Pair). p.1) (map (λ i. numbered seed (client i)) xs) ≡ map client xs
+map_second : (seed : List ℕ) (xs : List ℕ) → map (λ (p : Pair). p.1) (map (λ i. numbered seed (client_id i)) xs) ≡ map client_id xs
 map_second seed [] = refl
-map_second seed (x ∷ xs) = ap (λ l. client x ∷ l) (map_second seed xs)
+map_second seed (x ∷ xs) = ap (λ l. client_id x ∷ l) (map_second seed xs)
 
 same_map : (xs : List Pair) → map (λ p. p) xs ≡ xs
 same_map [] = refl
@@ -48,38 +48,38 @@ miss a i ne = ap (λ b. cond b 1 0) (ne_eqb a i ne)
 abbrev times : ℕ → List ClientId → ℕ
 times i cs = sum_by (λ c. cond (c.0 == i) 1 0) cs
 
-step : (a n i : ℕ) → times i (map client (range_with_len a (suc n))) ≡ cond (a == i) 1 0 + times i (map client (range_with_len (a + 1) n))
-step a n i = sum_by-cons (λ (c : ClientId). cond (c.0 == i) 1 0) (client a) (map client (range_with_len (a + 1) n))
+step : (a n i : ℕ) → times i (map client_id (range_with_len a (suc n))) ≡ cond (a == i) 1 0 + times i (map client_id (range_with_len (a + 1) n))
+step a n i = sum_by-cons (λ (c : ClientId). cond (c.0 == i) 1 0) (client_id a) (map client_id (range_with_len (a + 1) n))
 
 -- among the numbers from a on, as many as n, one below them stands nowhere, one behind them neither, and each other once
-before : (a n i : ℕ) → i < a → times i (map client (range_with_len a n)) ≡ 0
+before : (a n i : ℕ) → i < a → times i (map client_id (range_with_len a n)) ≡ 0
 before a zero i h = refl
 before a (suc n) i h = omega (arith, step a n i, miss a i (λ e. omega arith), before (a + 1) n i (omega arith))
 
-behind : (a n i : ℕ) → a + n ≤ i → times i (map client (range_with_len a n)) ≡ 0
+behind : (a n i : ℕ) → a + n ≤ i → times i (map client_id (range_with_len a n)) ≡ 0
 behind a zero i h = refl
 behind a (suc n) i h = omega (arith, step a n i, miss a i (λ e. omega arith), behind (a + 1) n i (omega arith))
 
-within : (a n i : ℕ) → a ≤ i → i < a + n → times i (map client (range_with_len a n)) ≡ 1
+within : (a n i : ℕ) → a ≤ i → i < a + n → times i (map client_id (range_with_len a n)) ≡ 1
 within a zero i low high = absurd (omega arith)
 within a (suc n) i low high = dite (ℕ_discrete a i)
     (λ e. omega (arith, step a n i, hit a i e, before (a + 1) n i (omega arith)))
     (λ ne. omega (arith, step a n i, miss a i ne, within (a + 1) n i (omega arith) (omega arith)))
 
-each_once : (n i : ℕ) → times i (map client (range_with_len 0 n)) ≡ cond (nat_lt i n) 1 0
+each_once : (n i : ℕ) → times i (map client_id (range_with_len 0 n)) ≡ cond (nat_lt i n) 1 0
 each_once n i = dite (dec_le n i)
     (λ le. behind 0 n i (omega arith) ∙ sym (ap (λ b. cond b 1 0) (le-ltb i n le)))
     (λ gt. within 0 n i (omega arith) (omega arith) ∙ sym (ap (λ b. cond b 1 0) (lt-ltb i n (omega arith))))
 
 -- the sorted pairs without their numbers
-pub owned : (group : GroupSpec) (pairs : List Pair) → IsPermutation (map (λ i. numbered group.seed (client i)) (range_with_len 0 group.clients)) pairs
+pub owned : (group : GroupSpec) (pairs : List Pair) → IsPermutation (map (λ i. numbered group.seed (client_id i)) (range_with_len 0 group.clients)) pairs
     → IsSortedBy is_less pairs → IsOwners group (map (λ p. p.1) pairs)
 owned group pairs moved sorted = record {
-  once = λ i. sum_by-IsPermutation (λ (c : ClientId). cond (c.0 == i) 1 0) (map client (range_with_len 0 group.clients)) (map (λ p. p.1) pairs) same_clients ∙ each_once group.clients i;
+  once = λ i. sum_by-IsPermutation (λ (c : ClientId). cond (c.0 == i) 1 0) (map client_id (range_with_len 0 group.clients)) (map (λ p. p.1) pairs) same_clients ∙ each_once group.clients i;
   ordered = λ k d low high. at k d (omega (arith, high, long));
 }
   where
-    same_clients : IsPermutation (map client (range_with_len 0 group.clients)) (map (λ (p : Pair). p.1) pairs)
+    same_clients : IsPermutation (map client_id (range_with_len 0 group.clients)) (map (λ (p : Pair). p.1) pairs)
     same_clients = subst (λ xs. IsPermutation xs (map (λ p. p.1) pairs)) (map_second group.seed (range_with_len 0 group.clients)) (IsPermutation-map (λ p. p.1) _ pairs moved)
 
     long : length (map (λ (p : Pair). p.1) pairs) ≡ length pairs
@@ -88,7 +88,7 @@ owned group pairs moved sorted = record {
     all : All (λ (p : Pair). p.0 ≡ owner_number group.seed p.1.0) pairs
     all =
         let P : Pair → Type 0 = λ p. p.0 ≡ owner_number group.seed p.1.0 in
-        let dealt = All-map P (λ i. numbered group.seed (client i)) (range_with_len 0 group.clients) (λ k d below. refl) in
+        let dealt = All-map P (λ i. numbered group.seed (client_id i)) (range_with_len 0 group.clients) (λ k d below. refl) in
         subst (All P) (same_map pairs) (All-map-IsPermutation (λ p. p) P _ pairs moved (subst (All P) (sym (same_map _)) dealt))
 
     at : (k : ℕ) (d : ClientId) → k + 1 < length pairs → comes_before group.seed (get_or (map (λ (p : Pair). p.1) pairs) (k + 1) d) (get_or (map (λ (p : Pair). p.1) pairs) k d) ≡ false

@@ -4,6 +4,7 @@ use Rattle.std.specs.Prelude.{ℕ, ◌+◌, ◌*◌, List}
 use Rattle.std.specs.List.{flat_map, range_with_len}
 use Rattle.std.specs.Int.{w32, w64, to_le_bytes, from_le_bytes}
 use Rattle.rand_chacha.specs.ChaCha.{word_at, key_of}
+use Rattle.dn_wire.specs.Signer.{number_of}
 use Rattle.dn_wire.specs.declared.ids.SignerId.{SignerId}
 use Rattle.dn_wire.specs.declared.ids.SignerId.TheVariants.{Client, Server, Slot}
 
@@ -21,12 +22,6 @@ abbrev pub key_stream : SignerId → ℕ
 key_stream (Client i) = 2
 key_stream (Server j) = 3
 key_stream (Slot s) = 4
-
--- the number of a client, a server or a slot
-abbrev pub number_of : SignerId → ℕ
-number_of (Client i) = i.0
-number_of (Server j) = j.0
-number_of (Slot s) = s.0
 
 -- the identifier of a signer's key, and behind it the key's seed
 abbrev pub key_id_of : List ℕ → SignerId → List ℕ

@@ -5,8 +5,8 @@ use Rattle.dn_wire.specs.declared.ids.ClientId.{ClientId}
 use Rattle.dn_roster.specs.declared.group.GroupSpec.{GroupSpec}
 use Rattle.dn_roster.specs.Dealing.{owner_number}
 
-abbrev pub client : ℕ → ClientId
-client i = record { 0 = i }
+abbrev pub client_id : ℕ → ClientId
+client_id i = record { 0 = i }
 
 -- a client with the number that is dealt to it
 abbrev pub numbered : List ℕ → ClientId → ℕ × ClientId

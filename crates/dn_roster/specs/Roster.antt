@@ -1,11 +1,11 @@
 -- The roster of a group, its bytes and its digest, and the bytes that are signed in the group. Numbers have their high byte first.
-use Rattle.std.specs.Prelude.{◌≡◌, ℕ, ◌+◌, ◌*◌, ◌≤◌, List, [], ◌∷◌, ◌++◌, length, Option, codes, slice_get}
+use Rattle.std.specs.Prelude.{◌≡◌, ℕ, ◌+◌, ◌*◌, ◌≤◌, List, ◌++◌, length, Option, codes, slice_get}
 use Rattle.std.specs.List.{flat_map}
 use Rattle.std.specs.Int.{w32, to_be_bytes}
+use Rattle.dn_wire.specs.Signer.{signer_bytes}
 use Rattle.dn_wire.specs.declared.ids.SignerId.{SignerId}
 use Rattle.dn_wire.specs.declared.ids.SignerId.TheVariants.{Client, Server, Slot}
 use Rattle.dn_hash.specs.Digests.{group_digest_of}
-use Rattle.dn_roster.specs.Dealing.{number_of}
 
 -- the version of the group, the typecodes, the public keys by number, and the commitments to the pairs' seeds, client by client and within
 -- it server by server
@@ -53,13 +53,7 @@ roster_bytes_of roster =
 abbrev pub digest_of : RosterView → List ℕ
 digest_of roster = group_digest_of roster.version (roster_bytes_of roster)
 
--- the byte that stands for the kind of a signer
-abbrev pub signer_tag : SignerId → ℕ
-signer_tag (Client i) = 1
-signer_tag (Server j) = 2
-signer_tag (Slot s) = 3
-
 -- what is signed where a signer makes a statement in the group with this digest
 unfoldable pub signed_bytes_of : List ℕ → SignerId → List ℕ → List ℕ
 signed_bytes_of digest who statement =
-    codes "dnstmt" ++ digest ++ signer_tag who ∷ [] ++ to_be_bytes w32 (number_of who) ++ statement
+    codes "dnstmt" ++ digest ++ signer_bytes who ++ statement

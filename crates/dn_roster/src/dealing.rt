@@ -1,5 +1,5 @@
 ghost use Rattle.std.specs.Prelude.{◌≡◌, ◌+◌, ◌*◌, ◌%◌, ◌/◌, ◌^◌, ◌<◌, ◌≤◌, length};
-ghost use Rattle.dn_roster.specs.Dealing.{dealt, pair_seed_of, key_id_of, key_seed_of, key_stream, number_of, mask_secret_of, owner_number};
+ghost use Rattle.dn_roster.specs.Dealing.{dealt, pair_seed_of, key_id_of, key_seed_of, key_stream, mask_secret_of, owner_number};
 
 use crate::group::GroupSpec;
 use dn_wire::{ClientId, ServerId, SignerId};
@@ -19,9 +19,10 @@ const MASK_SECRETS: u64 = 5;
 
 const OWNER_NUMBERS: u64 = 6;
 
-/// Writes the words of a stream from a place on, as many as the bytes have.
+/// Fills the bytes with the words of a stream of a seed's keystream, from a place on. A place counts words of four bytes, from 0, and
+/// each word gives its low byte first. Streams 1 to 6 are the group's own.
 #[tactic(auto, unfolding(crate::specs::Dealing::dealt))]
-fn deal_into(seed: &[u8; 32], stream: u64, place: u128, bytes: &mut [u8])
+pub fn deal_into(seed: &[u8; 32], stream: u64, place: u128, bytes: &mut [u8])
     requires whole { length bytes.old % 4 ≡ 0 }
     requires small { place + length bytes.old < 2 ^ 68 }
     ensures { bytes.new ≡ dealt seed.now stream place (length bytes.old / 4) }
@@ -59,12 +60,12 @@ pub fn member_key(group: &GroupSpec, who: SignerId) -> DealtKey
     ensures id { result.id ≡ key_id_of group.now.seed who }
     ensures seed { result.seed ≡ key_seed_of group.now.seed who }
 {
-    let (stream, number) = match who {
-        SignerId::Client(i) => (CLIENT_KEYS, i.0),
-        SignerId::Server(j) => (SERVER_KEYS, j.0),
-        SignerId::Slot(s) => (SLOT_KEYS, s.0),
+    let stream = match who {
+        SignerId::Client(_) => CLIENT_KEYS,
+        SignerId::Server(_) => SERVER_KEYS,
+        SignerId::Slot(_) => SLOT_KEYS,
     };
-    let place = 16 * u128::from(number);
+    let place = 16 * u128::from(who.number());
     let mut id = [0; 16];
     deal_into(&group.seed, stream, place, &mut id);
     let mut seed = [0; 32];

@@ -14,8 +14,8 @@ mod roster;
 #[cfg(test)]
 mod tests;
 
-pub use dealing::{DealtKey, mask_secret, member_key, pair_seed};
+pub use dealing::{DealtKey, deal_into, mask_secret, member_key, pair_seed};
 pub use group::GroupSpec;
 pub use laws::owners_are_one_list;
 pub use owners::slot_owners;
-pub use roster::Roster;
+pub use roster::{Roster, signed_bytes_in};

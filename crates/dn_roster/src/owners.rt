@@ -1,6 +1,6 @@
 ghost use Rattle.std.specs.Prelude.{◌≡◌, map, IfOk};
 ghost use Rattle.std.specs.List.{range_with_len};
-ghost use Rattle.dn_roster.specs.Owners.{IsOwners, client, numbered};
+ghost use Rattle.dn_roster.specs.Owners.{IsOwners, client_id, numbered};
 
 use crate::dealing::owner_number;
 use crate::group::GroupSpec;
@@ -10,7 +10,7 @@ use std::alloc::Global;
 
 /// The clients with the numbers that are dealt to them.
 fn numbered_clients(alloc: Global, group: &GroupSpec) -> Result<Vec<(u64, ClientId)>, NoMemory>
-    ensures { IfOk result (λ v. v.items ≡ map (λ i. numbered group.now.seed (client i)) (range_with_len 0 group.now.clients)) }
+    ensures { IfOk result (λ v. v.items ≡ map (λ i. numbered group.now.seed (client_id i)) (range_with_len 0 group.now.clients)) }
 {
     let mut clients = Vec::with_capacity(alloc, group.clients as usize)?;
     for i in 0..group.clients {

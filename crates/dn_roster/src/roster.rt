@@ -3,7 +3,7 @@ ghost use Rattle.dn_roster.specs.Roster.{RosterView, IsRoster, key_of, commitmen
 
 use dn_hash::group_tag;
 use dn_memory::NoMemory;
-use dn_wire::{ClientId, ServerId, SignerId, put_bytes, put_u8, put_u32};
+use dn_wire::{ClientId, ServerId, SignerId, put_bytes, put_signer, put_u32};
 use sha2::{Digest, Sha256};
 use std::alloc::Global;
 use std::marker::Model;
@@ -176,7 +176,6 @@ impl Roster {
     }
 
     /// The bytes that this signer signs to make a statement in this group.
-    #[tactic(auto, unfolding(crate::specs::Roster::signed_bytes_of))]
     pub fn signed_bytes(
         &self,
         alloc: Global,
@@ -185,17 +184,24 @@ impl Roster {
     ) -> Result<Vec<u8>, NoMemory>
         ensures { IfOk result (λ v. v.items ≡ signed_bytes_of (digest_of self.now) who statement.now) }
     {
-        let (tag, number) = match who {
-            SignerId::Client(i) => (1, i.0),
-            SignerId::Server(j) => (2, j.0),
-            SignerId::Slot(s) => (3, s.0),
-        };
-        let mut out = Vec::with_capacity(alloc, statement.len().saturating_add(43))?;
-        put_bytes(&mut out, b"dnstmt")?;
-        put_bytes(&mut out, &self.digest)?;
-        put_u8(&mut out, tag)?;
-        put_u32(&mut out, number)?;
-        put_bytes(&mut out, statement)?;
-        Ok(out)
+        signed_bytes_in(alloc, &self.digest, who, statement)
     }
+}
+
+/// The bytes that a signer signs to make a statement in the group with this digest. A member that keeps no roster signs by these.
+#[tactic(auto, unfolding(crate::specs::Roster::signed_bytes_of))]
+pub fn signed_bytes_in(
+    alloc: Global,
+    digest: &[u8; 32],
+    who: SignerId,
+    statement: &[u8],
+) -> Result<Vec<u8>, NoMemory>
+    ensures { IfOk result (λ v. v.items ≡ signed_bytes_of digest.now who statement.now) }
+{
+    let mut out = Vec::with_capacity(alloc, statement.len().saturating_add(43))?;
+    put_bytes(&mut out, b"dnstmt")?;
+    put_bytes(&mut out, digest)?;
+    put_signer(&mut out, who)?;
+    put_bytes(&mut out, statement)?;
+    Ok(out)
 }

@@ -106,7 +106,7 @@ impl PlainScript {
         ensures { IfOk result (λ bits. bits ≡ message self.now client.0) }
     {
         match said_by(&self.lines, client) {
-            Some(message) => message.copy(),
+            Some(message) => message.copy(alloc),
             None => Bits::zeros(alloc, self.bits),
         }
     }

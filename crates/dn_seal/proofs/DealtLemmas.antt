@@ -13,7 +13,7 @@ use Rattle.dn_wire.specs.declared.ids.SignerId.TheVariants.{Client, Server, Slot
 use Rattle.dn_hash.specs.Digests.{seed_commitment_of}
 use Rattle.dn_lms.specs.Signature.{public_key}
 use Rattle.dn_roster.specs.declared.group.GroupSpec.{GroupSpec}
-use Rattle.dn_roster.specs.Dealing.{number_of}
+use Rattle.dn_wire.specs.Signer.{number_of}
 use Rattle.dn_roster.specs.Roster.{RosterView, key_of, commitment_of}
 use Rattle.dn_seal.specs.Dealt.{IsMember, signers_like, client, server, slot, key_dealt_to, keys_dealt_to, each_pair, seed_dealt_to, commitment_dealt_to, dealt_roster}
 use Rattle.dn_seal.proofs.ListLemmas.{length-each_pair, length-public_keys}

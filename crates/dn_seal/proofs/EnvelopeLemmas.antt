@@ -6,10 +6,10 @@ use Rattle.dn_wire.specs.declared.ids.SignerId.TheVariants.{Client, Server, Slot
 use Rattle.dn_records.specs.declared.statement.Statement.{Statement}
 use Rattle.dn_records.specs.Fields.{spell_number}
 use Rattle.dn_records.specs.Records.{statement_bytes, envelope_bytes}
-use Rattle.dn_roster.specs.Roster.{RosterView, digest_of, signed_bytes_of}
+use Rattle.dn_roster.specs.Roster.{signed_bytes_of}
 use Rattle.dn_lms.specs.Key.{Key}
 use Rattle.dn_lms.specs.Signature.{lms_signature}
-use Rattle.dn_seal.specs.Signer.{envelope, heading, sealed_bytes}
+use Rattle.dn_seal.specs.Signer.{envelope, heading, sealed_in}
 
 pub envelope_parts : (who : SignerId) (s : Statement) (signature : List ℕ)
     → envelope_bytes (envelope who s signature) ≡ heading who (length (statement_bytes s)) ++ statement_bytes s ++ signature
@@ -36,9 +36,9 @@ middle bytes front part back n m e a b =
     ∙ take-append_seam part back
 
 -- what is put together for a statement
-pub sealed_parts : (roster : RosterView) (who : SignerId) (key : Key) (q : ℕ) (s : Statement) (out statement signed signature : List ℕ)
-    → statement ≡ statement_bytes s → signed ≡ signed_bytes_of (digest_of roster) who statement → signature ≡ lms_signature key q signed
-    → out ≡ heading who (length statement) ++ statement ++ signature → out ≡ sealed_bytes roster who key q s
-sealed_parts roster who key q s out statement signed signature st sg sig is =
-    let signature_is = sig ∙ ap (lms_signature key q) (sg ∙ ap (signed_bytes_of (digest_of roster) who) st) in
-    is ∙ (λ i. heading who (length (st i)) ++ st i ++ signature_is i) ∙ sym (envelope_parts who s (lms_signature key q (signed_bytes_of (digest_of roster) who (statement_bytes s))))
+pub sealed_parts : (digest : List ℕ) (who : SignerId) (key : Key) (q : ℕ) (s : Statement) (out statement signed signature : List ℕ)
+    → statement ≡ statement_bytes s → signed ≡ signed_bytes_of digest who statement → signature ≡ lms_signature key q signed
+    → out ≡ heading who (length statement) ++ statement ++ signature → out ≡ sealed_in digest who key q s
+sealed_parts digest who key q s out statement signed signature st sg sig is =
+    let signature_is = sig ∙ ap (lms_signature key q) (sg ∙ ap (signed_bytes_of digest who) st) in
+    is ∙ (λ i. heading who (length (st i)) ++ st i ++ signature_is i) ∙ sym (envelope_parts who s (lms_signature key q (signed_bytes_of digest who (statement_bytes s))))

@@ -4,3 +4,4 @@ pub mod EnvelopeLemmas
 pub mod ChallengeLemmas
 pub mod DealtLemmas
 pub mod SaidLemmas
+pub mod SizeLemmas

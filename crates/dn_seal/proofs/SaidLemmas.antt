@@ -1,11 +1,15 @@
 -- What was said, and its bytes.
-use Rattle.std.proofs.Common.{◌≡◌, ℕ, List, Some, sym, ap, ◌∙◌}
+use Rattle.std.proofs.Common.{◌≡◌, ℕ, ◌<◌, List, Some, sym, ap, ◌∙◌}
 use Rattle.dn_wire.specs.declared.ids.SignerId.{SignerId}
 use Rattle.dn_records.specs.declared.statement.Statement.{Statement}
 use Rattle.dn_records.specs.declared.envelope.Envelope.{Envelope}
 use Rattle.dn_records.proofs.RecordLaws.{envelope_once}
-use Rattle.dn_roster.specs.Roster.{RosterView, key_of}
-use Rattle.dn_seal.specs.Signer.{envelope}
+use Rattle.dn_records.specs.Records.{statement_bytes}
+use Rattle.dn_lms.specs.Key.{Key, IsKey, leaf_count}
+use Rattle.dn_lms.specs.Signature.{public_key, lms_signature}
+use Rattle.dn_lms.specs.Laws.{lms_signature-verifies}
+use Rattle.dn_roster.specs.Roster.{RosterView, key_of, digest_of, signed_bytes_of}
+use Rattle.dn_seal.specs.Signer.{CanSign, envelope, sealed_in}
 use Rattle.dn_seal.specs.Said.{SaidView, IsSaid, IsUnder, Unseals}
 
 some_is : (a b : List ℕ) → Some a ≡ Some b → a ≡ b
@@ -37,3 +41,17 @@ unsealed_once roster bytes i j s t u v =
     let e : envelope i s u.signature ≡ envelope j t v.signature =
     envelope_once (envelope i s u.signature) (envelope j t v.signature) u.fits v.fits (sym u.spelled ∙ v.spelled) in
     (ap (λ (x : Envelope). x.signer) e, ap (λ (x : Envelope). x.statement) e)
+
+-- what a key seals unseals
+pub sealed_unseals : (roster : RosterView) (digest : List ℕ) (who : SignerId) (key : Key) (q : ℕ) (s : Statement) → digest ≡ digest_of roster → key_of roster who ≡ Some (public_key key)
+    → IsKey key → q < leaf_count key → CanSign who s → Unseals roster (sealed_in digest who key q s) who s
+sealed_unseals roster digest who key q s same known is lt fits =
+    let msg = signed_bytes_of (digest_of roster) who (statement_bytes s) in
+    record {
+      signature = lms_signature key q msg;
+      key = public_key key;
+      fits = fits;
+      spelled = ap (λ (d : List ℕ). sealed_in d who key q s) same;
+      known = known;
+      verifies = lms_signature-verifies key q msg is lt;
+    }

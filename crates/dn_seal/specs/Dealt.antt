@@ -1,6 +1,7 @@
 -- What a group's dealer deals.
 use Rattle.std.specs.Prelude.{◌≡◌, ◌<◌, ℕ, List, map}
 use Rattle.std.specs.List.{flat_map, range_with_len}
+use Rattle.dn_wire.specs.Signer.{number_of}
 use Rattle.dn_wire.specs.declared.ids.ClientId.{ClientId}
 use Rattle.dn_wire.specs.declared.ids.SignerId.{SignerId}
 use Rattle.dn_wire.specs.declared.ids.SignerId.TheVariants.{Client, Server, Slot}
@@ -9,7 +10,7 @@ use Rattle.dn_lms.specs.Key.{Key}
 use Rattle.dn_lms.specs.Signature.{public_key}
 use Rattle.dn_roster.specs.declared.group.GroupSpec.{GroupSpec}
 use Rattle.dn_roster.specs.Group.{IsWithinLimits}
-use Rattle.dn_roster.specs.Dealing.{pair_seed_of, key_id_of, key_seed_of, mask_secret_of, number_of}
+use Rattle.dn_roster.specs.Dealing.{pair_seed_of, key_id_of, key_seed_of, mask_secret_of}
 use Rattle.dn_roster.specs.Owners.{IsOwners}
 use Rattle.dn_roster.specs.Roster.{RosterView}
 use Rattle.dn_seal.specs.declared.dealt.Kind.{Kind}
@@ -45,10 +46,10 @@ abbrev pub slot : ℕ → SignerId
 slot s = Slot record { 0 = s }
 
 -- the signer of a kind and number
-abbrev pub signer_of : Kind → ℕ → SignerId
-signer_of kinds.Client i = client i
-signer_of kinds.Server j = server j
-signer_of kinds.Slot s = slot s
+abbrev pub nth_signer : Kind → ℕ → SignerId
+nth_signer kinds.Client i = client i
+nth_signer kinds.Server j = server j
+nth_signer kinds.Slot s = slot s
 
 -- the keys of the first n signers of a kind
 abbrev pub keys_dealt_to : GroupSpec → (ℕ → SignerId) → ℕ → List Key

@@ -1,6 +1,7 @@
 -- What contracts see of a signer, and what it seals.
 use Rattle.std.specs.Prelude.{◌≡◌, ◌<◌, ℕ, List, [], ◌∷◌, ◌++◌, ◌⊎◌}
 use Rattle.std.specs.Int.{w32, to_be_bytes}
+use Rattle.dn_wire.specs.Signer.{signer_bytes}
 use Rattle.dn_wire.specs.declared.ids.SignerId.{SignerId}
 use Rattle.dn_records.specs.declared.statement.Statement.{Statement}
 use Rattle.dn_records.specs.Records.{statement_bytes, envelope_bytes, IsEnvelope}
@@ -8,8 +9,7 @@ use Rattle.dn_records.specs.declared.envelope.Envelope.{Envelope}
 use Rattle.dn_lms.specs.Key.{Key}
 use Rattle.dn_lms.specs.Signature.{lms_signature}
 use Rattle.dn_leaf.specs.Drawer.{DrawerId}
-use Rattle.dn_roster.specs.Dealing.{number_of}
-use Rattle.dn_roster.specs.Roster.{RosterView, digest_of, signer_tag, signed_bytes_of}
+use Rattle.dn_roster.specs.Roster.{RosterView, digest_of, signed_bytes_of}
 
 -- its key, and the drawer of the key's leaves
 pub record SignerView (K : Type 0) : Type 0 where
@@ -21,7 +21,7 @@ envelope who s signature = record { signer = who; statement = s; signature = sig
 
 -- what stands before a statement of so many bytes in its envelope
 abbrev pub heading : SignerId → ℕ → List ℕ
-heading who long = signer_tag who ∷ [] ++ to_be_bytes w32 (number_of who) ++ to_be_bytes w32 long
+heading who long = signer_bytes who ++ to_be_bytes w32 long
 
 -- a statement that can stand in an envelope
 abbrev pub CanSign : SignerId → Statement → Type 0
@@ -31,7 +31,11 @@ CanSign who s = IsEnvelope (envelope who s [])
 abbrev pub IsLeafLost : ℕ → List ℕ → List ℕ → Type 0
 IsLeafLost count old new = (new ≡ old) ⊎ ((q : ℕ) × (q < count) × (new ≡ old ++ q ∷ []))
 
--- the bytes of the envelope that this key makes at leaf q
+-- the bytes of the envelope that this key makes at leaf q, in the group with this digest
+abbrev pub sealed_in : List ℕ → SignerId → Key → ℕ → Statement → List ℕ
+sealed_in digest who key q s =
+    envelope_bytes (envelope who s (lms_signature key q (signed_bytes_of digest who (statement_bytes s))))
+
+-- in the group of this roster
 abbrev pub sealed_bytes : RosterView → SignerId → Key → ℕ → Statement → List ℕ
-sealed_bytes roster who key q s =
-    envelope_bytes (envelope who s (lms_signature key q (signed_bytes_of (digest_of roster) who (statement_bytes s))))
+sealed_bytes roster who key q s = sealed_in (digest_of roster) who key q s

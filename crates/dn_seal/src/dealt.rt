@@ -4,10 +4,10 @@ ghost use Rattle.dn_lms.specs.Key.{IsKey};
 ghost use Rattle.dn_lms.specs.Signature.{public_key};
 ghost use Rattle.dn_roster.specs.Group.{IsWithinLimits};
 ghost use Rattle.dn_roster.specs.Dealing.{mask_secret_of};
-ghost use Rattle.dn_seal.specs.Dealt.{IsDealt, key_dealt_to, keys_dealt_to, signer_of, each_pair, seed_dealt_to, commitment_dealt_to};
+ghost use Rattle.dn_seal.specs.Dealt.{IsDealt, key_dealt_to, keys_dealt_to, nth_signer, each_pair, seed_dealt_to, commitment_dealt_to};
 
 use dn_hash::seed_commitment;
-use dn_lms::{KeyPair, SigKey};
+use dn_lms::{KeyFault, KeyPair, SigKey};
 use dn_memory::NoMemory;
 use dn_roster::{GroupSpec, Roster, mask_secret, member_key, pair_seed, slot_owners};
 use dn_wire::{ClientId, ServerId, SignerId, SlotId};
@@ -38,7 +38,7 @@ enum Kind {
 }
 
 fn signer(kind: Kind, number: u32) -> SignerId
-    ensures { result ≡ signer_of kind number }
+    ensures { result ≡ nth_signer kind number }
 {
     match kind {
         Kind::Client => SignerId::Client(ClientId(number)),
@@ -58,8 +58,9 @@ fn deal_key(alloc: Global, spec: &GroupSpec, who: SignerId) -> Result<KeyPair, N
     let dealt = member_key(spec, who);
     match KeyPair::make(alloc, lms, spec.ots, dealt.id, dealt.seed) {
         Ok(key) => Ok(key),
+        Err(KeyFault::NoMemory) => Err(NoMemory),
         // The typecodes are known ones.
-        Err(_) => Err(NoMemory),
+        Err(KeyFault::UnknownLms { .. } | KeyFault::UnknownOts { .. }) => unreachable!(),
     }
 }
 
@@ -70,7 +71,7 @@ fn deal_keys(
     count: u32,
 ) -> Result<Vec<KeyPair>, NoMemory>
     requires { IsWithinLimits spec.now }
-    ensures dealt { IfOk result (λ keys. keys.items ≡ keys_dealt_to spec.now (signer_of kind) count) }
+    ensures dealt { IfOk result (λ keys. keys.items ≡ keys_dealt_to spec.now (nth_signer kind) count) }
     ensures keys { IfOk result (λ keys. All IsKey keys.items) }
 {
     let mut keys = Vec::with_capacity(alloc, count as usize)?;

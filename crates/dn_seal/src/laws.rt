@@ -1,13 +1,17 @@
 // Laws of dealt groups, for those who build on them.
-ghost use Rattle.std.specs.Prelude.{◌≡◌, ℕ, ◌+◌, ◌*◌, ◌<◌, ◌≤◌, List, Some, None, slice_get};
+ghost use Rattle.std.specs.Prelude.{◌≡◌, ℕ, ◌+◌, ◌*◌, ◌^◌, ◌<◌, ◌≤◌, List, length, Some, None, slice_get};
 ghost use Rattle.dn_wire.specs.declared.ids.SignerId.{SignerId};
 ghost use Rattle.dn_hash.specs.Digests.{seed_commitment_of};
+ghost use Rattle.dn_lms.specs.Key.{Key, IsKey, leaf_count};
 ghost use Rattle.dn_lms.specs.Signature.{public_key};
-ghost use Rattle.dn_roster.specs.Dealing.{mask_secret_of, number_of};
-ghost use Rattle.dn_roster.specs.Roster.{key_of, commitment_of};
+ghost use Rattle.dn_wire.specs.Signer.{number_of};
+ghost use Rattle.dn_roster.specs.Dealing.{mask_secret_of};
+ghost use Rattle.dn_roster.specs.Roster.{RosterView, key_of, commitment_of, digest_of};
+ghost use Rattle.dn_records.specs.Records.{statement_bytes, IsStatement};
 ghost use Rattle.dn_records.specs.declared.statement.Statement.{Statement};
-ghost use Rattle.dn_roster.specs.Roster.{RosterView};
 ghost use Rattle.dn_seal.specs.Said.{SaidView, IsSaid, IsUnder, Unseals};
+ghost use Rattle.dn_seal.specs.Signer.{CanSign, sealed_in};
+ghost use Rattle.dn_seal.specs.Sizes.{HasShortSignatures, most_bytes, longest_signature};
 ghost use Rattle.dn_seal.specs.Dealt.{IsMember, signers_like, client, server, slot, key_dealt_to, seed_dealt_to};
 
 use crate::dealt::Dealt;
@@ -37,4 +41,18 @@ pub fn bytes_say_one_thing()
     ensures one { (roster : RosterView) (x y : SaidView) → IsSaid x → IsSaid y → IsUnder roster x → IsUnder roster y → x.bytes ≡ y.bytes → x ≡ y }
     ensures unseals { (roster : RosterView) (x : SaidView) → IsSaid x → IsUnder roster x → Unseals roster x.bytes x.signer x.statement }
     ensures alone { (roster : RosterView) (bytes : List ℕ) (i j : SignerId) (s t : Statement) → Unseals roster bytes i s → Unseals roster bytes j t → (i ≡ j) × (s ≡ t) }
+{}
+
+/// What a key seals in a group, at any of its leaves, unseals under each roster of the group that has its public key.
+pub fn sealed_bytes_unseal()
+    ensures { (roster : RosterView) (digest : List ℕ) (who : SignerId) (key : Key) (q : ℕ) (s : Statement) → digest ≡ digest_of roster → key_of roster who ≡ Some (public_key key)
+        → IsKey key → q < leaf_count key → CanSign who s → Unseals roster (sealed_in digest who key q s) who s }
+{}
+
+/// Each statement within its limits can be sealed, as long as the signatures in it are short, which those that verify are. `bytes` and
+/// `said` tell how long a statement and what was said of it can be.
+pub fn statements_fit()
+    ensures can { (who : SignerId) (s : Statement) → number_of who < 2 ^ 32 → IsStatement s → HasShortSignatures s → CanSign who s }
+    ensures bytes { (s : Statement) → IsStatement s → HasShortSignatures s → length (statement_bytes s) ≤ most_bytes s }
+    ensures said { (x : SaidView) → IsSaid x → HasShortSignatures x.statement → length x.bytes ≤ 9 + most_bytes x.statement + longest_signature }
 {}

@@ -2,7 +2,7 @@
 //! statement.
 //!
 //! `deal` makes all keys and seeds of a group from its one seed, as `specs/Dealt.antt` has it. A `Signer` seals
-//! statements with its key, each at a leaf of its own. `unseal` opens an envelope against a roster; the `Said` that it
+//! statements with its key, each at a leaf of its own; a `SigningKey` does so alone, and keeps what it signed. `unseal` opens an envelope against a roster; the `Said` that it
 //! gives keeps that the signature verified, and under which group's digest and which key.
 #![tactic(auto)]
 
@@ -11,13 +11,18 @@ mod dealt;
 mod laws;
 mod said;
 mod signer;
+mod signing_key;
 #[cfg(test)]
 mod tests;
 mod unopened;
 
 pub use challenge::Challenge;
 pub use dealt::{Dealt, deal};
-pub use laws::{bytes_say_one_thing, members_have_their_keys, pairs_have_their_seeds};
+pub use laws::{
+    bytes_say_one_thing, members_have_their_keys, pairs_have_their_seeds, sealed_bytes_unseal,
+    statements_fit,
+};
 pub use said::{Said, unseal};
 pub use signer::{SealFault, Signer};
+pub use signing_key::SigningKey;
 pub use unopened::Unopened;

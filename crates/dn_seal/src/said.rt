@@ -1,8 +1,8 @@
-ghost use Rattle.std.specs.Prelude.{◌≡◌, ◌≤◌, List, ℕ, Some, IfOk, IfErr, MatchResult};
-ghost use Rattle.dn_roster.specs.Roster.{key_of, digest_of};
+ghost use Rattle.std.specs.Prelude.{◌≡◌, IfOk, IfErr, MatchResult};
 ghost use Rattle.dn_records.specs.Records.{statement_bytes, envelope_bytes, IsEnvelope};
-ghost use Rattle.dn_records.specs.declared.envelope.Envelope.{Envelope};
-ghost use Rattle.dn_seal.specs.Said.{SaidView, IsSaid, IsUnder, Unseals, IsUnopened, Signs};
+ghost use Rattle.dn_records.specs.declared.statement.Statement.{Statement};
+ghost use Rattle.dn_wire.specs.declared.ids.SignerId.{SignerId};
+ghost use Rattle.dn_seal.specs.Said.{IsSaid, IsUnder, Unseals, IsUnopened};
 
 use crate::unopened::Unopened;
 use dn_lms::verify;
@@ -95,9 +95,9 @@ fn statement_part<'a>(bytes: &'a [u8], envelope: &Envelope) -> &'a [u8]
 pub fn unseal(alloc: Global, roster: &Roster, bytes: &[u8]) -> Result<Said, Unopened>
     ensures said { IfOk result (λ s. IsSaid s × IsUnder roster.now s × (s.bytes ≡ bytes.now)) }
     ensures unopened { IfErr result (IsUnopened roster.now bytes.now) }
-    // What was signed unseals, but for want of memory.
-    ensures signed { (e : Envelope) → (key : List ℕ) → IsEnvelope e → bytes.now ≡ envelope_bytes e → key_of roster.now e.signer ≡ Some key → Signs (digest_of roster.now) key e
-        → MatchResult result (λ s. (s.signer ≡ e.signer) × (s.statement ≡ e.statement)) (λ f. f ≡ Unopened.NoMemory) }
+    // What unseals as a signer's statement is opened as that, but for want of memory.
+    ensures opened { (who : SignerId) → (s : Statement) → Unseals roster.now bytes.now who s
+        → MatchResult result (λ x. (x.signer ≡ who) × (x.statement ≡ s)) (λ f. f ≡ Unopened.NoMemory) }
 {
     let envelope = match decode_envelope(alloc, bytes) {
         Ok(envelope) => envelope,

@@ -4,16 +4,16 @@ ghost use Rattle.dn_lms.specs.Key.{leaf_count};
 ghost use Rattle.dn_lms.specs.Signature.{public_key};
 ghost use Rattle.dn_leaf.specs.Counts.{IsDistinctBelow, HasEachOnce};
 ghost use Rattle.dn_leaf.specs.Drawer.{fresh, IsSamePass};
-ghost use Rattle.dn_roster.specs.Roster.{key_of};
+ghost use Rattle.dn_roster.specs.Roster.{RosterView, key_of, digest_of};
 ghost use Rattle.dn_seal.specs.Said.{Unseals};
-ghost use Rattle.dn_seal.specs.Signer.{CanSign, IsLeafLost, heading, sealed_bytes};
+ghost use Rattle.dn_seal.specs.Signer.{CanSign, IsLeafLost, heading, sealed_bytes, sealed_in};
 
 use dn_leaf::{Drawer, Exhausted, LeafPass};
 use dn_lms::{KeyPair, SigKey};
 use dn_memory::NoMemory;
 use dn_records::{Statement, encode};
-use dn_roster::Roster;
-use dn_wire::{SignerId, put_bytes, put_u8, put_u32};
+use dn_roster::{Roster, signed_bytes_in};
+use dn_wire::{SignerId, put_bytes, put_signer, put_u32};
 use std::alloc::Global;
 use std::marker::Model;
 
@@ -102,22 +102,54 @@ fn put_statement(out: &mut Vec<u8>, who: SignerId, statement: &[u8]) -> Result<(
     requires { length statement.now < 2 ^ 32 }
     ensures { OnOk result (out.new.items ≡ out.old.items ++ heading who (length statement.now) ++ statement.now) }
 {
-    let (tag, number) = match who {
-        SignerId::Client(i) => (1, i.0),
-        SignerId::Server(j) => (2, j.0),
-        SignerId::Slot(s) => (3, s.0),
-    };
-    put_u8(out, tag)?;
-    put_u32(out, number)?;
+    put_signer(out, who)?;
     put_u32(out, statement.len() as u32)?;
     put_bytes(out, statement)?;
     Ok(())
 }
 
 impl Signer<KeyPair> {
-    /// The envelope of a statement that this signer makes in the group, signed at the leaf that it draws. `Exhausted` comes
-    /// exactly where the pass has found that all leaves are drawn. After `NoMemory` the leaf that was drawn, if one was, is
-    /// lost.
+    /// The envelope of a statement that this signer makes in the group with this digest, signed at the leaf that it draws, whose
+    /// number is appended to the draws of the pass. `Exhausted` comes exactly where the pass has found that all leaves are drawn.
+    /// After `NoMemory` the leaf that was drawn, if one was, is lost.
+    pub fn seal_in(
+        &self,
+        alloc: Global,
+        digest: &[u8; 32],
+        who: SignerId,
+        pass: &mut LeafPass,
+        s: &Statement,
+    ) -> Result<Vec<u8>, SealFault>
+        requires drawer { pass.old.drawer ≡ self.now.drawer }
+        requires fits { CanSign who s.now }
+        ensures pass { IsSamePass pass.old pass.new }
+        ensures sealed { IfOk result (λ v. (q : ℕ) × (q < leaf_count self.now.key) × (pass.new.draws ≡ pass.old.draws ++ q ∷ []) × (v.items ≡ sealed_in digest.now who self.now.key q s.now)) }
+        ensures unseals { (roster : RosterView) → digest_of roster ≡ digest.now → key_of roster who ≡ Some (public_key self.now.key) → IfOk result (λ v. Unseals roster v.items who s.now) }
+
+        // The leaves of passes that have met are distinct, and a pass that stands for all draws them in order.
+        ensures apart { IfOk result (λ _. IsDistinctBelow pass.new.draws (leaf_count self.now.key)) }
+        ensures alone { pass.old.stands ≡ self.now.drawer.passes → IfOk result (λ v. v.items ≡ sealed_in digest.now who self.now.key (length pass.old.draws) s.now) }
+
+        ensures open { IfOk result (λ _. (pass.old.seen ≡ None) × (pass.new.seen ≡ None)) }
+        ensures exhausted { (n : ℕ) → result ≡ Err (SealFault.Exhausted n) → (leaf_count self.now.key ≤ n) × (pass.new.seen ≡ Some n) × (pass.new.draws ≡ pass.old.draws) }
+        ensures again { IfSome pass.old.seen (λ n. (pass.new.seen ≡ Some n) × (pass.new.draws ≡ pass.old.draws)) }
+        ensures bound { (n : ℕ) → result ≡ Err (SealFault.Exhausted n) → n ≤ leaf_count self.now.key + self.now.drawer.passes }
+        ensures last { pass.old.stands ≡ self.now.drawer.passes → pass.old.seen ≡ None → (n : ℕ) → result ≡ Err (SealFault.Exhausted n) → n ≡ length pass.old.draws }
+
+        // Where memory is wanting at most one leaf was drawn.
+        ensures lost { result ≡ Err SealFault.NoMemory → (pass.new.seen ≡ pass.old.seen) × IsLeafLost (leaf_count self.now.key) pass.old.draws pass.new.draws }
+    {
+        let statement = encode(alloc, s)?;
+        let signed = signed_bytes_in(alloc, digest, who, &statement)?;
+        let mut sealed = Vec::new(alloc);
+        put_statement(&mut sealed, who, &statement)?;
+        let q = self.drawer.draw(pass)?;
+        let signature = self.key.sign_at(alloc, q, &signed)?;
+        put_bytes(&mut sealed, &signature)?;
+        Ok(sealed)
+    }
+
+    /// As `seal_in`, in the group of this roster.
     pub fn seal(
         &self,
         alloc: Global,
@@ -146,14 +178,7 @@ impl Signer<KeyPair> {
         // Where memory is wanting at most one leaf was drawn.
         ensures lost { result ≡ Err SealFault.NoMemory → (pass.new.seen ≡ pass.old.seen) × IsLeafLost (leaf_count self.now.key) pass.old.draws pass.new.draws }
     {
-        let statement = encode(alloc, s)?;
-        let signed = roster.signed_bytes(alloc, who, &statement)?;
-        let mut sealed = Vec::new(alloc);
-        put_statement(&mut sealed, who, &statement)?;
-        let q = self.drawer.draw(pass)?;
-        let signature = self.key.sign_at(alloc, q, &signed)?;
-        put_bytes(&mut sealed, &signature)?;
-        Ok(sealed)
+        self.seal_in(alloc, &roster.digest(), who, pass, s)
     }
 
     /// A signer with an equal key and a drawer of its own, whose one pass has drawn the leaves below `drawn`.

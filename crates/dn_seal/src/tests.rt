@@ -4,7 +4,10 @@ ghost use Rattle.dn_roster.specs.Roster.{key_of};
 ghost use Rattle.dn_seal.specs.Dealt.{client};
 ghost use Rattle.dn_seal.specs.Signer.{CanSign};
 
-use crate::{Challenge, Dealt, SealFault, Signer, Unopened, deal, members_have_their_keys, unseal};
+use crate::{
+    Challenge, Dealt, SealFault, Signer, SigningKey, Unopened, deal, members_have_their_keys,
+    unseal,
+};
 use dn_hash::seed_commitment;
 use dn_leaf::LeafPass;
 use dn_lms::KeyPair;
@@ -218,5 +221,20 @@ fn a_twin_signs_on_with_the_same_bytes(rt: HostRuntime) -> Result<(), Fail> {
     assert!(rt; by_twin == sealed);
     assert_eq!(rt; sealed.get(25), Some(&2));
     assert_eq!(rt; twin.left(&mut twin_pass), 29);
+    Ok(())
+}
+
+#[test]
+fn a_signing_key_seals_at_its_next_leaf(rt: HostRuntime) -> Result<(), Fail> {
+    let dealt = deal(rt.alloc(), &GROUP)?;
+    let key = dealt.client_keys[0].copy(rt.alloc())?;
+    let who = SignerId::Client(ClientId(0));
+    let mut key = SigningKey::make(rt.alloc(), key, dealt.roster.digest(), who)?;
+    assert_eq!(rt; key.leaves(), 32);
+    assert!(rt; 0 < key.left());
+    let sealed = key.seal(rt.alloc(), concession(1))?;
+    assert!(rt; concedes(rt.alloc(), &dealt, &sealed, 1));
+    assert_eq!(rt; sealed.get(25), Some(&0));
+    assert_eq!(rt; key.left(), 31);
     Ok(())
 }

@@ -3,10 +3,12 @@ use Rattle.std.proofs.Common.{◌≡◌, ℕ, ◌<◌, ◌≤◌, min, List, [],
 use lib.ListN.{get_elem?}
 use Rattle.atomic_table.specs.Table.{Me, Step}
 use Rattle.dn_turns.specs.Logs.{Follows, GrowsBelow}
-use Rattle.dn_turns.specs.Rule.{limit, joined, settled, first_some, Settles}
-use Rattle.dn_turns.specs.Turns.{least, IsPass}
+use Rattle.dn_counts.specs.Numbers.{first_some}
+use Rattle.dn_turns.specs.Rule.{limit, joined, settled, Settles}
+use Rattle.dn_counts.specs.Numbers.{least}
+use Rattle.dn_turns.specs.Turns.{IsPass}
 use Rattle.dn_turns.specs.declared.view.View.{View}
-use Rattle.dn_turns.proofs.Least.{least-append}
+use Rattle.dn_counts.proofs.Least.{least-append}
 
 module _ {E B L : Type 0} (list : L → List (ℕ × E)) (base_of : L → B) where
   abbrev At : Type 0

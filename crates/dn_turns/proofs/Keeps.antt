@@ -8,10 +8,14 @@ use lib.ListN.{get_elem?}
 use lib.Seq.{set-get_or}
 use Rattle.atomic_table.specs.Table.{State, Me, Step, step, Act, keeps, takes, gives, Valid, rest, carried_after, stepped, opening, Allows, Splits, Joins}
 use Rattle.atomic_table.proofs.Lists.{at_set, at_snoc, set_else, set_again, set_here}
-use Rattle.dn_turns.specs.Logs.{total, times, equal, range, within, Follows, GoesOn, GrowsBelow}
-use Rattle.dn_turns.specs.Rule.{limit, rest_of, first_of, first_some, is_ticket, view, first_view, without_first, of_first, joined, spent, after_ticket, in_turn, passed_on, settled, holds_ticket, has_turn, over, Fits, IsKept, Tickets, Looks, Passes, Settles}
+use Rattle.dn_counts.specs.Counts.{total, times, equal}
+use Rattle.dn_counts.specs.Numbers.{range}
+use Rattle.dn_turns.specs.Logs.{within, Follows, GoesOn, GrowsBelow}
+use Rattle.dn_counts.specs.Numbers.{rest_of, first_of, first_some}
+use Rattle.dn_turns.specs.Rule.{limit, is_ticket, view, first_view, without_first, of_first, joined, spent, after_ticket, in_turn, passed_on, settled, holds_ticket, has_turn, over, Fits, IsKept, Tickets, Looks, Passes, Settles}
 use Rattle.dn_turns.specs.declared.view.View.{View}
-use Rattle.dn_turns.proofs.Sums.{total-append, total-set, term_le, terms_le, total_less, total_le, whole, times-append, hit, within_high, within_more, within_less, leb-no, set_over, length-range, times-range, range_below}
+use Rattle.dn_counts.proofs.Sums.{total-append, total-set, term_le, terms_le, total_less, total_le, whole, times-append, hit, set_over, length-range, times-range, range_below}
+use Rattle.dn_turns.proofs.Within.{within_high, within_more, within_less, leb-no}
 use Rattle.dn_turns.proofs.Logs.{whole_log, goes_on, nearer, both_follow, grows_none, grows_by, at_front}
 
 module _ {E B : Type 0} where

@@ -1,4 +1,4 @@
-pub mod Sums
+pub mod Within
 pub mod Logs
 pub mod Keeps
 pub mod Least

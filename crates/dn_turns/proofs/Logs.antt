@@ -3,7 +3,8 @@ use Rattle.std.proofs.Common.{◌≡◌, ℕ, zero, suc, ◌+◌, ◌<◌, ◌�
 use mathlib.Core.Option.{some, some-ne-none}
 use lib.ListN.{get_elem?}
 use Rattle.atomic_table.proofs.Lists.{at_snoc}
-use Rattle.dn_turns.specs.Logs.{times, Follows, GrowsBelow}
+use Rattle.dn_counts.specs.Counts.{times}
+use Rattle.dn_turns.specs.Logs.{Follows, GrowsBelow}
 
 module _ {A : Type 0} where
   head_or : A → List A → A

@@ -1,35 +1,13 @@
 -- The passes that `make` gives.
 use Rattle.std.proofs.Common.{◌≡◌, ℕ, zero, suc, ◌+◌, ◌-◌, ◌<◌, List, [], ◌∷◌, ◌++◌, length, refl, sym, ap, ◌∙◌, subst, arith, Option, Some, None, IfSome, All, slice_get}
 use Rattle.atomic_table.specs.Table.{Me, Splits, opening}
-use Rattle.dn_turns.specs.Logs.{range}
-use Rattle.dn_turns.specs.Rule.{view, first_view, first_of, rest_of, without_first, of_first, IsKept}
+use Rattle.dn_counts.specs.Numbers.{range}
+use Rattle.dn_turns.specs.Rule.{view, first_view, without_first, of_first, IsKept}
 use Rattle.dn_turns.specs.Turns.{IsPass, IsFresh, LockId, PassView, pass_view}
 use Rattle.atomic_table.specs.Seated.{TableId}
 use Rattle.dn_turns.specs.declared.view.View.{View}
 use Rattle.dn_turns.proofs.Keeps.{starts, cuts}
-
-pub range_one : (n k : ℕ) → k ≡ 1 → range n k ≡ n ∷ []
-range_one n k e = ap (range n) e
-
-range_two : (n k : ℕ) → 1 < k → range n k ≡ n ∷ (n + 1) ∷ range (n + 1 + 1) (k - 2)
-range_two n zero h = absurd (omega arith)
-range_two n (suc zero) h = absurd (omega arith)
-range_two n (suc (suc k)) h = let e : k ≡ suc (suc k) - 2 = omega arith in ap (λ (j : ℕ). n ∷ (n + 1) ∷ range (n + 1 + 1) j) e
-
-pub first_of-range : (n k : ℕ) → 0 < k → first_of (range n k) ≡ n ∷ []
-first_of-range n zero h = absurd (omega arith)
-first_of-range n (suc k) h = refl
-
-pub rest_of-range : (n k : ℕ) → 0 < k → rest_of (range n k) ≡ range (n + 1) (k - 1)
-rest_of-range n zero h = absurd (omega arith)
-rest_of-range n (suc k) h = let e : k ≡ suc k - 1 = omega arith in ap (range (n + 1)) e
-
-pub all_more : {A : Type 0} (P : ℕ → A → Type 0) (xs : List A) (x : A) (n : ℕ) → length xs ≡ n → ((i : ℕ) → IfSome (slice_get xs i) (P i)) → P n x → (i : ℕ) → IfSome (slice_get (xs ++ x ∷ []) i) (P i)
-all_more P [] x n e h p zero = subst (λ (k : ℕ). P k x) (sym e) p
-all_more P [] x n e h p (suc i) = tt
-all_more P (y ∷ xs) x zero e h p i = absurd (omega arith)
-all_more P (y ∷ xs) x (suc n) e h p zero = h zero
-all_more P (y ∷ xs) x (suc n) e h p (suc i) = all_more (λ k a. P (suc k) a) xs x n (omega arith) (λ k. h (suc k)) p i
+use Rattle.dn_counts.proofs.Numbered.{range_two, first_of-range, rest_of-range}
 
 pub all_of : {A : Type 0} (Q : A → Type 0) (xs : List A) → ((i : ℕ) → IfSome (slice_get xs i) Q) → All Q xs
 all_of Q [] h k d lt = absurd (omega arith)
@@ -59,7 +37,7 @@ module _ {E B L : Type 0} (list : L → List (ℕ × E)) (base_of : L → B) whe
   pub made_pass : (passes n : ℕ) (b : B) (log : List (ℕ × E)) (m : At) → m ≡ (view passes (Some b) (n ∷ []) 0 None None log None [], []) → IsPass list base_of m n None
   made_pass passes n b log m e = record {
     live = omega (arith, ap (λ (x : At). length x.0.numbers) e);
-    least = sym (ap (λ (x : At). Rattle.dn_turns.specs.Turns.least x.0.numbers) e);
+    least = sym (ap (λ (x : At). Rattle.dn_counts.specs.Numbers.least x.0.numbers) e);
     same = sym (ap (λ (x : At). x.0.full) e);
     past = tt;
     settled = ap (λ (x : At). x.0.met) e;

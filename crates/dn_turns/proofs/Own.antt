@@ -3,9 +3,10 @@ use Rattle.std.proofs.Common.{◌≡◌, ℕ, suc, ◌<◌, List, [], ◌∷◌,
 use Rattle.std.proofs.lemmas.List.Elements.{filter-append}
 use mathlib.Core.Option.{some}
 use lib.ListN.{get_elem?}
-use Rattle.dn_turns.specs.Logs.{times, under, Follows}
-use Rattle.dn_turns.specs.Turns.{least}
-use Rattle.dn_turns.proofs.Least.{least_in}
+use Rattle.dn_counts.specs.Counts.{times}
+use Rattle.dn_turns.specs.Logs.{under, Follows}
+use Rattle.dn_counts.specs.Numbers.{least}
+use Rattle.dn_counts.proofs.Least.{least_in}
 
 module _ {E : Type 0} where
   under_none : (ns : List ℕ) (rest : List (ℕ × E)) → ((j : ℕ) (p : ℕ × E) → get_elem? rest j ≡ some p → times p.0 ns ≡ 0) → under ns rest ≡ []

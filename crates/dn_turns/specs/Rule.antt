@@ -3,27 +3,18 @@ use Rattle.std.specs.Prelude.{◌≡◌, ℕ, ◌+◌, ◌<◌, ◌≤◌, min, 
 use mathlib.Core.Option.{some}
 use lib.ListN.{get_elem?}
 use Rattle.atomic_table.specs.Table.{State, Me, Step}
-use Rattle.dn_turns.specs.Logs.{total, times, equal, range, within, Follows, GrowsBelow}
+use Rattle.dn_counts.specs.Numbers.{rest_of, first_of, first_some}
+use Rattle.dn_counts.specs.Counts.{total, times, equal}
+use Rattle.dn_counts.specs.Numbers.{range}
+use Rattle.dn_turns.specs.Logs.{within, Follows, GrowsBelow}
 use Rattle.dn_turns.specs.declared.view.View.{View}
 
 -- the count of tickets at which no more are given
 abbrev pub limit : ℕ
 limit = 4611686018427387904
 
-abbrev pub rest_of : List ℕ → List ℕ
-rest_of [] = []
-rest_of (n ∷ ns) = ns
-
-abbrev pub first_of : List ℕ → List ℕ
-first_of [] = []
-first_of (n ∷ ns) = n ∷ []
-
 abbrev pub longer : {A : Type 0} → List A → List A → List A
 longer xs ys = cond (nat_le (length ys) (length xs)) xs ys
-
-abbrev pub first_some : Option ℕ → Option ℕ → Option ℕ
-first_some None b = b
-first_some (Some n) b = Some n
 
 abbrev pub is_ticket : ℕ → Option ℕ → ℕ
 is_ticket k None = 0

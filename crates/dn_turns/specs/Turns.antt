@@ -2,6 +2,7 @@
 use Rattle.std.specs.Prelude.{◌≡◌, ℕ, ◌+◌, ◌<◌, ◌≤◌, List, [], ◌∷◌, Option, Some, None, length, IfSome}
 use Rattle.atomic_table.specs.Seated.{TableId}
 use Rattle.atomic_table.specs.Table.{Me}
+use Rattle.dn_counts.specs.Numbers.{least}
 use Rattle.dn_turns.specs.Rule.{limit}
 use Rattle.dn_turns.specs.declared.view.View.{View}
 
@@ -27,12 +28,6 @@ pub record TurnView (L : Type 0) : Type 0 where
   pub lock : LockId
   pub seat : ℕ
   pub log : L
-
--- the least of some numbers, and 0 of none
-abbrev pub least : List ℕ → ℕ
-least [] = 0
-least (n ∷ []) = n
-least (n ∷ m ∷ ns) = Rattle.std.specs.Prelude.min n (least (m ∷ ns))
 
 module _ {E B : Type 0} where
   abbrev pub pass_view : TableId → ℕ → View E B → PassView E B

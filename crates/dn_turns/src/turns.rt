@@ -1,7 +1,9 @@
 ghost use Rattle.std.specs.Prelude.{◌≡◌, ℕ, ◌+◌, ◌<◌, ◌≤◌, ◌++◌, ◌∷◌, [], List, All, length, Some, None, IfOk, IfErr, IfSome, IfNone, OnErr, Option, Err, slice_get};
 ghost use Rattle.dn_turns.specs.Logs.{Follows, GoesOn, GrowsBelow, under};
-ghost use Rattle.dn_turns.specs.Rule.{limit, longer, first_some, in_turn, passed_on};
-ghost use Rattle.dn_turns.specs.Turns.{IsFresh, IsSamePass, IsTurnOf, least};
+ghost use Rattle.dn_counts.specs.Numbers.{first_some};
+ghost use Rattle.dn_turns.specs.Rule.{limit, longer, in_turn, passed_on};
+ghost use Rattle.dn_counts.specs.Numbers.{least};
+ghost use Rattle.dn_turns.specs.Turns.{IsFresh, IsSamePass, IsTurnOf};
 
 use super::log::Log;
 use super::rule::{Both, Look, One, Order, PassOn, Settle, Terms, Ticket};

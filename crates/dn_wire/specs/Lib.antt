@@ -1,2 +1,4 @@
 pub mod Cursor
 pub mod Fields
+pub mod Members
+pub mod Signer

@@ -19,7 +19,7 @@ pub use limits::{
 };
 pub use members::MemberList;
 pub use reader::{FieldFault, Reader};
-pub use writing::{put_bytes, put_u8, put_u16, put_u32, put_u64};
+pub use writing::{put_bytes, put_signer, put_u8, put_u16, put_u32, put_u64};
 
 #[cfg(test)]
 mod tests;

@@ -51,3 +51,25 @@ impl MemberList {
         self.get() == other.get()
     }
 }
+
+impl PartialEq for MemberList {
+    ghost use Rattle.std.specs.Cmp.Lexicographic.{pointwise};
+    ghost use Rattle.std.specs.Cmp.Rules.{comparing};
+    ghost use Rattle.std.proofs.Common.{rules};
+    ghost use Rattle.dn_wire.specs.Members.{member_eq};
+
+    ghost eq = { pointwise member_eq };
+
+    ghost laws = { Prim.search (comparing, rules) };
+
+    fn eq(&self, other: &MemberList) -> bool {
+        self.equals(other)
+    }
+}
+
+impl Eq for MemberList {
+    ghost use Rattle.std.specs.Cmp.Rules.{comparing};
+    ghost use Rattle.std.proofs.Common.{rules};
+
+    ghost laws = { Prim.search (comparing, rules) };
+}

@@ -2,7 +2,9 @@
 
 ghost use Rattle.std.specs.Prelude.{◌≡◌, ◌++◌, ◌∷◌, [], OnOk, OnErr};
 ghost use Rattle.std.specs.Int.{w16, w32, w64, to_be_bytes};
+ghost use Rattle.dn_wire.specs.Signer.{signer_bytes};
 
+use crate::ids::SignerId;
 use dn_memory::NoMemory;
 
 /// Appends one byte.
@@ -48,4 +50,13 @@ pub fn put_bytes(out: &mut Vec<u8>, v: &[u8]) -> Result<(), NoMemory>
 {
     out.extend_from_slice(v)?;
     Ok(())
+}
+
+/// Appends the byte of the kind of signer and the four bytes of its number, the high byte first.
+pub fn put_signer(out: &mut Vec<u8>, who: SignerId) -> Result<(), NoMemory>
+    ensures ok { OnOk result (out.new.items ≡ out.old.items ++ signer_bytes who) }
+    ensures err { OnErr result (out.new.items ≡ out.old.items) }
+{
+    let [a, b, c, d] = who.number().to_be_bytes();
+    put_bytes(out, &[who.tag(), a, b, c, d])
 }

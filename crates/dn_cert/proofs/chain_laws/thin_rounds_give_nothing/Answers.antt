@@ -6,5 +6,5 @@ returns c = record {
   version = is_of_version_2;
   empty = λ chain b is inside thin. (no_digests chain b is inside thin, no_output chain b is inside thin);
   layout = layout_same;
-  accusation = λ chain b layout who s v is inside thin. nothing_to_accuse chain b is inside thin layout who s v;
+  accusation = nothing_to_accuse;
 }

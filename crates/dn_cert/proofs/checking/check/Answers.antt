@@ -1,7 +1,7 @@
 use Rattle.std.proofs.Common.{◌≡◌, sym, subst}
 use Rattle.std.specs.Prelude.{◌⊎◌, IfErr}
 use Rattle.dn_cert.specs.declared.fault.CertFault.TheVariants as refusals
-use Rattle.dn_cert.specs.Certificate.{IsUnsigned, IsRefused}
+use Rattle.dn_cert.specs.Certificate.{ArePartsRefused, IsRefused}
 use Rattle.dn_cert.proofs.RefusalLemmas.{refused_for_memory, refused_for_form, same_parts, refused_if, accepted_if}
 use Rattle.dn_cert.proofs.checking.check.Goals as goal
 
@@ -13,7 +13,7 @@ returns-in-Err-clause-signed c =
 pub returns-clause-refused : goal.returns-clause-refused
 returns-clause-refused c =
     let e = c.in-Ok.ensures.exact in
-    let u = subst (λ s. IfErr c.certified.result (λ f. (f ≡ refusals.NoMemory) ⊎ IsUnsigned c.args.roster.now c.in-Ok.parts.0 s f)) c.get.ensures c.certified.ensures.refused in
+    let u = subst (λ s. IfErr c.certified.result (λ f. (f ≡ refusals.NoMemory) ⊎ ArePartsRefused c.args.roster.now c.in-Ok.parts.0 s f)) c.get.ensures c.certified.ensures.refused in
     refused_if c.args.roster.now c.args.bytes.now c.in-Ok.parts.0 c.in-Ok.parts.1 c.certified.result e u
 
 pub returns-clause-signed : goal.returns-clause-signed

@@ -5,12 +5,12 @@ use Rattle.dn_cert.proofs.held.count_below.Goals as goal
 
 pub returns-clause-below : goal.returns-clause-below
 returns-clause-below c =
-    let parted = IsPartitionedBy-ltb (λ h. h.certificate.body.r.0) c.args.held.now c.args.r.0 (IsNonDecreasingBy-increasing (λ h. h.certificate.body.r.0) c.args.held.now c.requires) in
-    let point = IsPartitionPoint-from_clause (λ h. ltb h.certificate.body.r.0 c.args.r.0) _ _ c.partition_point.ensures.partitioned parted (λ a r q k. search rules) in
+    let parted = IsPartitionedBy-ltb (λ h. h.body.r.0) c.args.held.now c.args.r.0 (IsNonDecreasingBy-increasing (λ h. h.body.r.0) c.args.held.now c.requires) in
+    let point = IsPartitionPoint-from_clause (λ h. ltb h.body.r.0 c.args.r.0) _ _ c.partition_point.ensures.partitioned parted (λ a r q k. search rules) in
     λ k d low high. ltb-true _ _ (point.0 k d low high)
 
 pub returns-clause-above : goal.returns-clause-above
 returns-clause-above c =
-    let parted = IsPartitionedBy-ltb (λ h. h.certificate.body.r.0) c.args.held.now c.args.r.0 (IsNonDecreasingBy-increasing (λ h. h.certificate.body.r.0) c.args.held.now c.requires) in
-    let point = IsPartitionPoint-from_clause (λ h. ltb h.certificate.body.r.0 c.args.r.0) _ _ c.partition_point.ensures.partitioned parted (λ a r q k. search rules) in
+    let parted = IsPartitionedBy-ltb (λ h. h.body.r.0) c.args.held.now c.args.r.0 (IsNonDecreasingBy-increasing (λ h. h.body.r.0) c.args.held.now c.requires) in
+    let point = IsPartitionPoint-from_clause (λ h. ltb h.body.r.0 c.args.r.0) _ _ c.partition_point.ensures.partitioned parted (λ a r q k. search rules) in
     λ k d low high. ltb-false _ _ (point.1 k d low high)

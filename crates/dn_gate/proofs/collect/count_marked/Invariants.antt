@@ -1,6 +1,7 @@
 use Rattle.std.proofs.Common.{◌≡◌, ◌≤◌, ℕ, List, [], length, map}
 use Rattle.std.specs.List.{range_with_len}
-use Rattle.dn_gate.specs.Rule.{looked_all, many, marked_count, marks_upto, is_mark, total}
+use Rattle.dn_counts.specs.Counts.{total}
+use Rattle.dn_gate.specs.Rule.{looked_all, many, marked_count, marks_upto, is_mark}
 use Rattle.dn_gate.proofs.collect.count_marked.Given as goal
 
 abbrev pub invariant-loop-i : goal.invariant-loop-i

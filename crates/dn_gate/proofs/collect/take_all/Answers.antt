@@ -1,5 +1,6 @@
 use Rattle.std.proofs.Common.{rules, arith, ◌≡◌, ap, refl, ◌∙◌, length, ◌++◌}
-use Rattle.dn_gate.specs.Rule.{At, times}
+use Rattle.dn_counts.specs.Counts.{times}
+use Rattle.dn_gate.specs.Rule.{At}
 use Rattle.dn_gate.specs.Collected.{clients_of}
 use Rattle.dn_gate.proofs.Collects.{took_none, took_more, times_above, few_more, below_more', order_more, whole_more, full_more, counted_more}
 use Rattle.dn_gate.proofs.collect.take_all.Goals as goal

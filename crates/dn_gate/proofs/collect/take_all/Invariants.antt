@@ -1,7 +1,8 @@
 use Rattle.std.proofs.Common.{◌≡◌, ◌<◌, ◌≤◌, ℕ, [], length, map, get_or, vec_capacity}
 use Rattle.std.specs.List.Sorted.{IsStrictlyIncreasing}
 use Rattle.dn_gate.specs.Order.{in_order}
-use Rattle.dn_gate.specs.Rule.{many, is_mark, times, total}
+use Rattle.dn_counts.specs.Counts.{times, total}
+use Rattle.dn_gate.specs.Rule.{many, is_mark}
 use Rattle.dn_gate.specs.Collected.{named, clients_of, took_all}
 use Rattle.dn_gate.proofs.collect.take_all.Given as goal
 

@@ -1,6 +1,4 @@
-use Rattle.std.proofs.Common.{length, ap, ◌∙◌, sym, subst}
-use Rattle.std.specs.Prelude.{Contains}
-use Rattle.dn_cert.specs.Chain.{bodies}
+use Rattle.std.proofs.Common.{length}
 use Rattle.dn_cert.proofs.HeldLemmas.{held_ascend, body_seen, none_seen}
 use Rattle.dn_cert.proofs.chain.Chain.body.Goals as goal
 
@@ -11,7 +9,7 @@ pub returns-in-Some-clause-body : goal.returns-in-Some-clause-body
 returns-in-Some-clause-body c =
     let found = c.in-Some.ensures.found in
     let there = body_seen (length c.self.inside.first) c.deref.result.now c.self.inside.held.items c.args.self.now c.deref.ensures.value c.self.view_is c.in-Some.held.now found.0 in
-    (subst (λ b. Contains (bodies c.args.self.now) b) (sym c.body.ensures.value) there, ap (λ b. b.r) c.body.ensures.value ∙ found.1)
+    (there, found.1)
 
 pub returns-in-None-clause-body : goal.returns-in-None-clause-body
 returns-in-None-clause-body c =

@@ -12,7 +12,7 @@ pub returns-then-is_some-clause-refused : goal.returns-then-is_some-clause-refus
 returns-then-is_some-clause-refused c =
     let h = found_one _ c.find.result c.find.ensures.found (sym c.if-is_some.ensures) in
     let there = body_seen (length c.self.inside.first) c.deref.result.now c.self.inside.held.items c.args.self.now c.deref.ensures.value c.self.view_is h.0.now h.1.0 in
-    (refl, (h.0.now.certificate.body, there, ap (λ r. r.0) h.1.1))
+    (refl, (h.0.now.body, there, ap (λ r. r.0) h.1.1))
 
 pub returns-in_default-clause-refused : goal.returns-in_default-clause-refused
 returns-in_default-clause-refused c =

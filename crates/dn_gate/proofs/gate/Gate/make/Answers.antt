@@ -1,8 +1,9 @@
 use Rattle.std.proofs.Common.{rules, arith, ap, sym, subst, ◌∙◌, ◌∷◌, [], ◌-◌, ◌≡◌, ℕ, IfSome, slice_get}
-use Rattle.dn_gate.specs.Opening.{range}
+use Rattle.dn_counts.specs.Numbers.{range}
 use Rattle.dn_gate.specs.Pass.{GateId, IsFresh, IsNew, numbers_of}
 use Rattle.dn_gate.proofs.Joins.{starts_at}
-use Rattle.dn_gate.proofs.Made.{idle_view, range_one, cuts_at, made_pass, made_fresh, first_cut, rest_cut, all_more, all_at, new_of}
+use Rattle.dn_counts.proofs.Numbered.{range_one, all_more}
+use Rattle.dn_gate.proofs.Made.{idle_view, cuts_at, made_pass, made_fresh, first_cut, rest_cut, all_at, new_of}
 use Rattle.dn_gate.proofs.gate.Gate.make.Goals as goal
 
 pub vacant-requires : goal.vacant-requires

@@ -1,5 +1,5 @@
 use Rattle.std.proofs.Common.{◌≡◌, ◌+◌, ◌-◌, [], ℕ, length, slice_get, IfSome, vec_capacity}
-use Rattle.dn_gate.specs.Opening.{range}
+use Rattle.dn_counts.specs.Numbers.{range}
 use Rattle.dn_gate.specs.Pass.{IsFresh, numbers_of}
 use Rattle.dn_gate.proofs.Made.{idle_view}
 use Rattle.dn_gate.proofs.gate.Gate.make.Given as goal

@@ -1,7 +1,8 @@
 use Rattle.std.proofs.Common.{rules, arith, ap, sym, ◌≡◌, ◌∙◌, ap₂, cond, nat_le, Some, None}
 use Rattle.atomic_table.specs.Table.{step}
 use mathlib.Core.Option.{none}
-use Rattle.dn_leaf.specs.Rule.{first_seen, after_look}
+use Rattle.dn_counts.specs.Numbers.{first_some}
+use Rattle.dn_leaf.specs.Rule.{after_look}
 use Rattle.dn_leaf.proofs.Keeps.{looks, joins, after_join, joined_apart}
 use Rattle.dn_leaf.proofs.drawer.Drawer.join.Goals as goal
 
@@ -14,9 +15,9 @@ load-found-requires c = (search rules, search rules, looks _ _ _ _ _ (omega (ari
 pub invariant_of-pass : goal.invariant_of-pass
 invariant_of-pass c =
     let me = c.join_seat.ensures.2 in
-    let seen : c.join_seat.new.seat.me.0.seen ≡ c.earlier.result = ap (λ m. m.0.seen) me ∙ ap₂ first_seen (sym c.pass.invariant.same) (sym c.other.invariant.same) ∙ sym c.earlier.ensures in
+    let seen : c.join_seat.new.seat.me.0.seen ≡ c.earlier.result = ap (λ m. m.0.seen) me ∙ ap₂ first_some (sym c.pass.invariant.same) (sym c.other.invariant.same) ∙ sym c.earlier.ensures in
     let count : c.join_seat.new.seat.me.0.count ≡ c.self.inside.count = ap (λ m. m.0.count) me ∙ ap (λ v. v.drawer.count) c.pass.view_is ∙ ap (λ d. d.count) c.requires.0 ∙ sym (ap (λ d. d.count) c.self.view_is) ∙ sym c.self.invariant.0 in
-    let same : c.noted-pass-inside.result ≡ (after_look c.join_seat.new.seat.me.0 c.load-found.result).seen = c.noted-pass-inside.ensures ∙ (λ i. first_seen (sym seen i) (cond (nat_le (sym count i) c.load-found.result) (Some c.load-found.result) None)) in
+    let same : c.noted-pass-inside.result ≡ (after_look c.join_seat.new.seat.me.0 c.load-found.result).seen = c.noted-pass-inside.ensures ∙ (λ i. first_some (sym seen i) (cond (nat_le (sym count i) c.load-found.result) (Some c.load-found.result) None)) in
     after_join (step 0 0 0 0 none) c.join_seat.new.seat.me _ _ _ (search rules) (omega (arith, c.pass.invariant.live, ap (λ m. m.0.stands) me)) same c.load-found.ensures.2
 
 pub returns-clause-apart : goal.returns-clause-apart

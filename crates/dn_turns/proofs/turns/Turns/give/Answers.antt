@@ -1,6 +1,6 @@
 use Rattle.std.proofs.Common.{rules, ◌≡◌, ◌<◌, ◌++◌, ◌∷◌, [], length, ap, sym, subst, ◌∙◌, Some}
 use Rattle.dn_turns.specs.Logs.{under}
-use Rattle.dn_turns.specs.Turns.{least}
+use Rattle.dn_counts.specs.Numbers.{least}
 use Rattle.dn_turns.proofs.Least.{given}
 use Rattle.dn_turns.proofs.Own.{under-given}
 use Rattle.dn_turns.proofs.turns.Turns.give.Goals as goal

@@ -2,7 +2,8 @@ use Rattle.std.proofs.Common.{rules, arith, ap, ap₂, min, subst, ◌∙◌, �
 use Rattle.atomic_table.specs.Table.{step}
 use mathlib.Core.Option.{none}
 use Rattle.dn_turns.specs.Logs.{Follows, GrowsBelow}
-use Rattle.dn_turns.specs.Rule.{limit, joined, first_some}
+use Rattle.dn_counts.specs.Numbers.{first_some}
+use Rattle.dn_turns.specs.Rule.{limit, joined}
 use Rattle.dn_turns.proofs.Joined.{joined_pass, both_seen, both_grow}
 use Rattle.dn_turns.proofs.Keeps.{joins, settles}
 use Rattle.dn_turns.proofs.turns.Turns.join.Goals as goal

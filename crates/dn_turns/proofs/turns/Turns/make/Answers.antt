@@ -1,8 +1,9 @@
 use Rattle.std.proofs.Common.{rules, arith, ap, sym, subst, ◌∙◌, ◌++◌, ◌∷◌, [], ◌-◌, ◌≡◌, ℕ, Some, None, IfSome, slice_get}
-use Rattle.dn_turns.specs.Logs.{range}
+use Rattle.dn_counts.specs.Numbers.{range}
 use Rattle.dn_turns.specs.Rule.{view}
 use Rattle.dn_turns.specs.Turns.{IsFresh}
-use Rattle.dn_turns.proofs.Made.{range_one, starts_at, cuts_at, made_pass, made_fresh, first_cut, rest_cut, all_more, all_ready}
+use Rattle.dn_counts.proofs.Numbered.{range_one, all_more}
+use Rattle.dn_turns.proofs.Made.{starts_at, cuts_at, made_pass, made_fresh, first_cut, rest_cut, all_ready}
 use Rattle.dn_turns.proofs.turns.Turns.make.Goals as goal
 
 pub new-requires : goal.new-requires

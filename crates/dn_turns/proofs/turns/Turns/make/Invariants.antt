@@ -1,5 +1,5 @@
 use Rattle.std.proofs.Common.{◌≡◌, ◌-◌, [], ℕ, length, slice_get, IfSome, Some, None, vec_capacity}
-use Rattle.dn_turns.specs.Logs.{range}
+use Rattle.dn_counts.specs.Numbers.{range}
 use Rattle.dn_turns.specs.Rule.{view}
 use Rattle.dn_turns.specs.Turns.{IsFresh}
 use Rattle.dn_turns.proofs.turns.Turns.make.Given as goal

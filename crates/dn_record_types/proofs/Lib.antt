@@ -1,0 +1,5 @@
+pub mod Laws
+pub mod FieldLaws
+pub mod ListLaws
+pub mod BitLaws
+pub mod RecordLaws

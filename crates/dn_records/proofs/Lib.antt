@@ -1,7 +1,0 @@
-pub mod FieldFaults
-pub mod Loop
-pub mod Laws
-pub mod FieldLaws
-pub mod ListLaws
-pub mod BitLaws
-pub mod RecordLaws

@@ -1,8 +1,0 @@
-use Rattle.std.proofs.Common.{◌≡◌, ◌++◌, take}
-use Rattle.std.specs.List.{flat_map}
-use Rattle.dn_records.specs.Lists.{spell_row}
-use Rattle.dn_records.specs.Records.{shown_cipher}
-use Rattle.dn_records.proofs.writing.put_ciphers_list.Given as goal
-
-abbrev pub invariant-loop-item : goal.invariant-loop-item
-invariant-loop-item l = l.out.items ≡ l.initial.out.items ++ flat_map (spell_row shown_cipher) (take l.item-index l.items)
