@@ -20,7 +20,9 @@ trap 'rm -f "$log"' EXIT
 program=${BUILT:-}
 if [ -z "$program" ]; then
     program=$top/crates/known_answers/out/known_answers
-    (cd "$top/crates/known_answers" && rt run < stdin > "$log" 2>&1) || { cat "$log" >&2; exit 1; }
+    # The stored run has lines that must be told as different, so its status isn't 0; what shows that it ran is its last line.
+    (cd "$top/crates/known_answers" && rt run < stdin > "$log" 2>&1) || true
+    grep -qxF "$(tail -1 "$top/crates/known_answers/stdout")" "$log" || { cat "$log" >&2; exit 1; }
 fi
 
 failed=0

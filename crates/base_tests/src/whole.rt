@@ -1,4 +1,6 @@
-use dn_io::{MemSink, MemSource, ReadEnd, SureSink, SureSource, WriteEnd, read_whole, write_whole};
+use dn_io::{
+    Collector, MemSink, MemSource, ReadEnd, SureSink, SureSource, WriteEnd, read_whole, write_whole,
+};
 use std::test::Fail;
 
 #[test]
@@ -49,5 +51,38 @@ fn a_sure_sink_takes_all(rt: HostRuntime) -> Result<(), Fail> {
     let mut sink = SureSink::make(rt.alloc(), 2)?;
     write_whole(&mut sink, &[1, 2, 3])?;
     assert_eq!(rt; sink.bytes(), [1, 2, 3].as_slice());
+    Ok(())
+}
+
+#[test]
+fn a_collector_puts_all_pieces_in_order(rt: HostRuntime) -> Result<(), Fail> {
+    let alloc = rt.alloc();
+    let mut sink = SureSink::make(alloc, 4096)?;
+    let mut collector = Collector::new(alloc);
+    let large = vec![in alloc; 9; 40_000]?;
+    collector.add(&mut sink, &[1, 2])?;
+    collector.add(&mut sink, &large)?;
+    assert_eq!(rt; sink.bytes().len(), 0);
+    collector.add(&mut sink, &large)?;
+    assert_eq!(rt; sink.bytes().len(), 40_002);
+    collector.finish(&mut sink)?;
+    assert_eq!(rt; sink.bytes().len(), 80_002);
+    assert_eq!(rt; &sink.bytes()[..3], [1, 2, 9].as_slice());
+    Ok(())
+}
+
+#[test]
+fn a_collector_over_a_sink_that_fails_has_nothing_left(rt: HostRuntime) -> Result<(), Fail> {
+    let alloc = rt.alloc();
+    let mut sink = MemSink::make(alloc, 1, vec![in alloc; 2]?)?;
+    let mut collector = Collector::new(alloc);
+    collector.add(&mut sink, &[1, 2, 3, 4])?;
+    assert_eq!(rt;
+        collector.finish(&mut sink).err(),
+        Some(WriteEnd::WriteFault)
+    );
+    assert_eq!(rt; sink.bytes(), [1, 2].as_slice());
+    collector.finish(&mut sink)?;
+    assert_eq!(rt; sink.bytes(), [1, 2].as_slice());
     Ok(())
 }

@@ -1,6 +1,6 @@
 ghost use Rattle.std.specs.Prelude.{◌≡◌, ◌≢◌, ◌<◌, ◌↔◌, List, Bool, length, Some, None, IfOk, IfSome, IsTrue};
 ghost use Rattle.dn_hash.specs.Digests.{seed_commitment_of};
-ghost use Rattle.dn_records.specs.declared.statement.Statement.TheVariants.{PadBits};
+ghost use Rattle.dn_record_types.specs.declared.statement.Statement.TheVariants.{PadBits};
 ghost use Rattle.dn_wire.specs.declared.ids.SignerId.TheVariants.{Server};
 ghost use Rattle.dn_roster.specs.Roster.{commitment_of};
 ghost use Rattle.dn_seal.specs.Said.{Unseals};

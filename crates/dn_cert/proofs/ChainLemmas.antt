@@ -4,7 +4,7 @@ use Rattle.std.specs.Prelude.{All, Contains, insert}
 use Rattle.std.specs.List.Sorted.{IsStrictlyIncreasing}
 use Rattle.std.proofs.lemmas.List.{get_or-map, length-map}
 use Rattle.std.proofs.lemmas.List.Elements.{All-contains, Contains-get_or}
-use Rattle.dn_records.specs.declared.body.Body.{Body}
+use Rattle.dn_record_types.specs.declared.body.Body.{Body}
 use Rattle.dn_wire.specs.declared.ids.Round.{Round}
 use Rattle.dn_cert.specs.declared.hold_fault.HoldFault.{HoldFault}
 use Rattle.dn_cert.specs.declared.hold_fault.HoldFault.TheVariants as faults

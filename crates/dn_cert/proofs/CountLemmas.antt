@@ -3,7 +3,7 @@ use Rattle.std.proofs.Common.{◌≡◌, ◌≢◌, ℕ, List, [], ◌∷◌, le
 use Rattle.std.specs.Prelude.{Contains}
 use mathlib.Core.Logic.{dite}
 use native.Mathlib.Decide.{ℕ_discrete}
-use Rattle.dn_records.specs.declared.body.Body.{Body}
+use Rattle.dn_record_types.specs.declared.body.Body.{Body}
 use Rattle.dn_cert.specs.Chain.{count_in}
 use Rattle.dn_cert.proofs.Orders.{here, later, first_or_later, nothing}
 

@@ -3,7 +3,7 @@ use Rattle.std.proofs.Common.{◌≡◌, ◌≢◌, ℕ, ◌<◌, Bool, true, fa
 use Rattle.std.specs.Prelude.{Contains, ◌⊎◌}
 use Rattle.std.proofs.lemmas.List.{length-replicate}
 use Rattle.std.proofs.lemmas.List.Elements.{All-contains}
-use Rattle.dn_records.specs.declared.body.Body.{Body}
+use Rattle.dn_record_types.specs.declared.body.Body.{Body}
 use Rattle.dn_layout.specs.Layout.{next_of}
 use Rattle.dn_layout.proofs.LengthLemmas.{length-next_of}
 use Rattle.dn_cert.specs.Chain.{ChainView, bodies, LayoutAfter, IsLayoutAfter, count_at, CanFollow, IsRound, with_held, HasCertificate, IsChain}

@@ -6,7 +6,7 @@ use Rattle.std.specs.List.Sorted.{IsStrictlyIncreasing}
 use Rattle.std.proofs.lemmas.Bool.{cases_lt}
 use Rattle.std.proofs.lemmas.List.{get_or-map, length-map, get_or_default}
 use Rattle.std.proofs.lemmas.List.Elements.{All-contains, All-weaker}
-use Rattle.dn_records.specs.declared.body.Body.{Body}
+use Rattle.dn_record_types.specs.declared.body.Body.{Body}
 use Rattle.dn_cert.specs.declared.held.Held.{Held}
 use Rattle.dn_cert.specs.Chain.{ChainView, bodies, Holds, IsLayoutAfter, layout_after, count_at, CanFollow, IsChain, IsLatestBelow, with_held, HasCertificate}
 use Rattle.dn_cert.proofs.ListLemmas.{rises, Contains-map, Contains-from_map, map-insert, All-insert}

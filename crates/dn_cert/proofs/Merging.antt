@@ -5,8 +5,8 @@ use Rattle.std.proofs.lemmas.Bool.{cond_both, ltb-true, ltb-false, eqb-true, eqb
 use Rattle.std.proofs.lemmas.List.{append-nil, drop_all}
 use Rattle.dn_wire.specs.declared.ids.ClientId.{ClientId}
 use Rattle.dn_records.specs.Lists.{AscendFrom}
-use Rattle.dn_records.specs.declared.inventory.Entry.{Entry}
-use Rattle.dn_records.specs.declared.body.Listed.{Listed}
+use Rattle.dn_record_types.specs.declared.inventory.Entry.{Entry}
+use Rattle.dn_record_types.specs.declared.body.Listed.{Listed}
 use Rattle.dn_cert.proofs.Orders.{here, later, first_or_later, nothing, same_client, above_floor}
 
 abbrev pub row_of : ℕ → Entry → Listed

@@ -4,12 +4,12 @@ use Rattle.std.specs.Prelude.{IfErr, MatchResult, ⊤}
 use Rattle.std.proofs.lemmas.List.{get_or-map, length-map}
 use Rattle.dn_wire.specs.declared.ids.SignerId.TheVariants.{Client}
 use Rattle.dn_records.specs.Records.{envelope_of, payload_of, payload_bytes, IsPayload}
-use Rattle.dn_records.specs.declared.statement.Statement.TheVariants as kinds
-use Rattle.dn_records.specs.declared.envelope.Envelope.{Envelope}
-use Rattle.dn_records.specs.declared.body.Body.{Body}
-use Rattle.dn_records.specs.declared.payload.Payload.{Payload}
-use Rattle.dn_records.specs.declared.payload.Payload.TheVariants as payloads
-use Rattle.dn_records.proofs.RecordLaws.{envelope_again, payload_again}
+use Rattle.dn_record_types.specs.declared.statement.Statement.TheVariants as kinds
+use Rattle.dn_record_types.specs.declared.envelope.Envelope.{Envelope}
+use Rattle.dn_record_types.specs.declared.body.Body.{Body}
+use Rattle.dn_record_types.specs.declared.payload.Payload.{Payload}
+use Rattle.dn_record_types.specs.declared.payload.Payload.TheVariants as payloads
+use Rattle.dn_record_types.proofs.RecordLaws.{envelope_again, payload_again}
 use Rattle.dn_roster.specs.Roster.{RosterView, key_of, digest_of}
 use Rattle.dn_seal.specs.Signer.{envelope}
 use Rattle.dn_seal.specs.declared.unopened.Unopened.{Unopened}
@@ -25,7 +25,7 @@ use Rattle.dn_cert.specs.declared.payload_fault.PayloadFault.{PayloadFault}
 use Rattle.dn_cert.specs.declared.payload_fault.PayloadFault.TheVariants as faults
 use Rattle.dn_cert.specs.Certificate.{CertificateView, IsCertificate, IsCertificateUnder, IsSigned, ArePartsRefused, certificate_of}
 use Rattle.dn_cert.specs.Opening.{IsSubmission, IsOpened, IsOpenedEnvelope, IsClosed, IsUnopenedPayload}
-use Rattle.dn_records.proofs.Laws.{ok_is}
+use Rattle.dn_record_types.proofs.Laws.{ok_is}
 use Rattle.dn_cert.proofs.PartLemmas.{parts_again}
 use Rattle.dn_cert.proofs.RefusalLemmas.{refused_for_memory, refused_for_parts}
 

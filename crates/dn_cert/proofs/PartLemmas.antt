@@ -5,12 +5,12 @@ use Rattle.dn_wire.specs.Cursor.{start, past}
 use Rattle.dn_records.specs.Part.{◌>>=◌, whole, Fails}
 use Rattle.dn_records.specs.Fields.{read_byte}
 use Rattle.dn_records.specs.Records.{certificate, payload_of, read_tag, read_certificate, payload_bytes, IsPayload}
-use Rattle.dn_records.specs.declared.body.Body.{Body}
-use Rattle.dn_records.specs.declared.fault.RecordFault.{RecordFault}
-use Rattle.dn_records.specs.declared.fault.RecordFault.TheVariants as faults
-use Rattle.dn_records.specs.declared.payload.Payload.{Payload}
-use Rattle.dn_records.specs.declared.payload.Payload.TheVariants as payloads
-use Rattle.dn_records.proofs.RecordLaws.{payload_again}
+use Rattle.dn_record_types.specs.declared.body.Body.{Body}
+use Rattle.dn_record_types.specs.declared.fault.RecordFault.{RecordFault}
+use Rattle.dn_record_types.specs.declared.fault.RecordFault.TheVariants as faults
+use Rattle.dn_record_types.specs.declared.payload.Payload.{Payload}
+use Rattle.dn_record_types.specs.declared.payload.Payload.TheVariants as payloads
+use Rattle.dn_record_types.proofs.RecordLaws.{payload_again}
 use Rattle.dn_cert.specs.Certificate.{certificate_of}
 
 -- without bytes there is no tag

@@ -3,12 +3,12 @@ use Rattle.std.proofs.Common.{◌≡◌, ℕ, List, length, Result, Ok, Err, inl
 use Rattle.std.specs.Prelude.{◌⊎◌, IfOk, IfErr, MatchResult}
 use Rattle.dn_wire.specs.declared.ids.ServerId.{ServerId}
 use Rattle.dn_records.specs.Records.{payload_bytes}
-use Rattle.dn_records.specs.declared.body.Body.{Body}
-use Rattle.dn_records.specs.declared.fault.RecordFault.{RecordFault}
-use Rattle.dn_records.specs.declared.payload.Payload.TheVariants as payloads
-use Rattle.dn_records.specs.declared.fault.RecordFault.TheVariants as faults
+use Rattle.dn_record_types.specs.declared.body.Body.{Body}
+use Rattle.dn_record_types.specs.declared.fault.RecordFault.{RecordFault}
+use Rattle.dn_record_types.specs.declared.payload.Payload.TheVariants as payloads
+use Rattle.dn_record_types.specs.declared.fault.RecordFault.TheVariants as faults
 use Rattle.dn_records.specs.Part.{Fails}
-use Rattle.dn_records.proofs.Laws.{ok_is}
+use Rattle.dn_record_types.proofs.Laws.{ok_is}
 use Rattle.dn_roster.specs.Roster.{RosterView, digest_of}
 use Rattle.dn_cert.specs.declared.fault.CertFault.{CertFault}
 use Rattle.dn_cert.specs.declared.fault.CertFault.TheVariants as refusals

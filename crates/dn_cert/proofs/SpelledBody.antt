@@ -5,9 +5,9 @@ use Rattle.std.proofs.lemmas.Nat.{from_be_bytes-to_be_bytes_4}
 use Rattle.dn_records.specs.Fields.{spell_number, word, sized, short}
 use Rattle.dn_records.specs.Lists.{several}
 use Rattle.dn_records.specs.Records.{statement_bytes, body_bytes, payload_bytes, IsPayload}
-use Rattle.dn_records.specs.declared.body.Body.{Body}
-use Rattle.dn_records.specs.declared.payload.Payload.TheVariants as payloads
-use Rattle.dn_records.specs.declared.statement.Statement.TheVariants.{Sign}
+use Rattle.dn_record_types.specs.declared.body.Body.{Body}
+use Rattle.dn_record_types.specs.declared.payload.Payload.TheVariants as payloads
+use Rattle.dn_record_types.specs.declared.statement.Statement.TheVariants.{Sign}
 use Rattle.dn_seal.proofs.EnvelopeLemmas.{middle}
 
 -- the tag, the number of the body's bytes, and they

@@ -4,8 +4,8 @@ use Rattle.std.specs.Prelude.{Contains, IsTrue}
 use Rattle.std.proofs.lemmas.List.{nil_from_length}
 use Rattle.std.proofs.lemmas.List.Elements.{All-contains}
 use Rattle.dn_wire.specs.declared.ids.SignerId.{SignerId}
-use Rattle.dn_records.specs.declared.body.Body.{Body}
-use Rattle.dn_records.specs.declared.statement.Statement.{Statement}
+use Rattle.dn_record_types.specs.declared.body.Body.{Body}
+use Rattle.dn_record_types.specs.declared.statement.Statement.{Statement}
 use Rattle.dn_layout.specs.Layout.{bits_of, next_of}
 use Rattle.dn_cert.specs.declared.rules.Valid.{Valid}
 use Rattle.dn_cert.specs.Certificate.{CertificateView, IsCertificate}

@@ -8,9 +8,9 @@ use Rattle.std.proofs.lemmas.List.Elements.{All-contains}
 use Rattle.dn_wire.specs.declared.ids.ClientId.{ClientId}
 use Rattle.dn_wire.specs.declared.ids.ServerId.{ServerId}
 use Rattle.dn_records.specs.Lists.{Ascend}
-use Rattle.dn_records.specs.declared.inventory.Entry.{Entry}
-use Rattle.dn_records.specs.declared.inventory.Inventory.{Inventory}
-use Rattle.dn_records.specs.declared.body.Listed.{Listed}
+use Rattle.dn_record_types.specs.declared.inventory.Entry.{Entry}
+use Rattle.dn_record_types.specs.declared.inventory.Inventory.{Inventory}
+use Rattle.dn_record_types.specs.declared.body.Listed.{Listed}
 use Rattle.dn_cert.specs.Trim.{IsInventory, HasEntry, IsNamed, IsOfLeast, IsTrim}
 use Rattle.dn_cert.proofs.Orders.{All-from_contains, one_each, same_members}
 use Rattle.dn_cert.proofs.Merging.{row_of, merged, merged-ascends, IsRow, merged-only, merged-keeps, merged-names}

@@ -5,10 +5,10 @@ use Rattle.dn_wire.specs.declared.ids.ServerId.{ServerId}
 use Rattle.dn_records.specs.Part.{◌>>=◌, whole}
 use Rattle.dn_records.specs.Fields.{read_byte}
 use Rattle.dn_records.specs.Records.{certificate, payload_bytes, IsPayload}
-use Rattle.dn_records.specs.declared.body.Body.{Body}
-use Rattle.dn_records.specs.declared.fault.RecordFault.{RecordFault}
-use Rattle.dn_records.specs.declared.fault.RecordFault.TheVariants as faults
-use Rattle.dn_records.specs.declared.payload.Payload.TheVariants as payloads
+use Rattle.dn_record_types.specs.declared.body.Body.{Body}
+use Rattle.dn_record_types.specs.declared.fault.RecordFault.{RecordFault}
+use Rattle.dn_record_types.specs.declared.fault.RecordFault.TheVariants as faults
+use Rattle.dn_record_types.specs.declared.payload.Payload.TheVariants as payloads
 use Rattle.dn_roster.specs.Roster.{RosterView, digest_of}
 use Rattle.dn_cert.specs.declared.fault.CertFault.{CertFault}
 use Rattle.dn_cert.specs.declared.fault.CertFault.TheVariants as refusals

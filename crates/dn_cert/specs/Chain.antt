@@ -1,7 +1,7 @@
 -- Rounds that hang together by their prev, the layouts after them, and how many clients counted in them.
 use Rattle.std.specs.Prelude.{◌≡◌, ◌≢◌, ◌<◌, ◌≤◌, ◌⊎◌, ◌==◌, ℕ, List, [], ◌∷◌, map, length, replicate, All, Contains, nat_lt, if◌then◌else◌}
 use Rattle.std.specs.List.Sorted.{IsStrictlyIncreasing}
-use Rattle.dn_records.specs.declared.body.Body.{Body}
+use Rattle.dn_record_types.specs.declared.body.Body.{Body}
 use Rattle.dn_layout.specs.Layout.{bits_of, next_of}
 use Rattle.dn_cert.specs.Certificate.{CertificateView, IsCertificate}
 use Rattle.dn_cert.specs.Floor.{is_due_thin}

@@ -9,9 +9,9 @@ use Rattle.dn_wire.specs.declared.ids.SignerId.TheVariants.{Slot, Server}
 use Rattle.dn_bits.specs.Bits.{bit}
 use Rattle.dn_hash.specs.Digests.{seed_commitment_of}
 use Rattle.dn_pads.specs.Pads.{keystream_bit}
-use Rattle.dn_records.specs.declared.body.Body.{Body}
-use Rattle.dn_records.specs.declared.statement.Statement.{Statement}
-use Rattle.dn_records.specs.declared.statement.Statement.TheVariants.{PadBits, Accusation, Rebuttal}
+use Rattle.dn_record_types.specs.declared.body.Body.{Body}
+use Rattle.dn_record_types.specs.declared.statement.Statement.{Statement}
+use Rattle.dn_record_types.specs.declared.statement.Statement.TheVariants.{PadBits, Accusation, Rebuttal}
 use Rattle.dn_layout.specs.Layout.{range_of}
 use Rattle.dn_roster.specs.Roster.{RosterView, commitment_of}
 use Rattle.dn_seal.specs.Said.{Unseals}

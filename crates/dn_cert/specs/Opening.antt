@@ -1,12 +1,12 @@
 -- Payloads that are opened whole.
 use Rattle.std.specs.Prelude.{◌≡◌, ◌≢◌, ◌⊎◌, ℕ, List, Ok, Err}
 use Rattle.dn_records.specs.Records.{payload_of, payload_bytes}
-use Rattle.dn_records.specs.declared.statement.Statement.{Statement}
-use Rattle.dn_records.specs.declared.statement.Statement.TheVariants as kinds
-use Rattle.dn_records.specs.declared.payload.Payload.{Payload}
-use Rattle.dn_records.specs.declared.payload.Payload.TheVariants as payloads
-use Rattle.dn_records.specs.declared.fault.RecordFault.{RecordFault}
-use Rattle.dn_records.specs.declared.fault.RecordFault.TheVariants as form_faults
+use Rattle.dn_record_types.specs.declared.statement.Statement.{Statement}
+use Rattle.dn_record_types.specs.declared.statement.Statement.TheVariants as kinds
+use Rattle.dn_record_types.specs.declared.payload.Payload.{Payload}
+use Rattle.dn_record_types.specs.declared.payload.Payload.TheVariants as payloads
+use Rattle.dn_record_types.specs.declared.fault.RecordFault.{RecordFault}
+use Rattle.dn_record_types.specs.declared.fault.RecordFault.TheVariants as form_faults
 use Rattle.dn_roster.specs.Roster.{RosterView}
 use Rattle.dn_seal.specs.declared.unopened.Unopened.{Unopened}
 use Rattle.dn_seal.specs.declared.unopened.Unopened.TheVariants as reasons

@@ -2,9 +2,9 @@
 use Rattle.std.specs.Prelude.{◌≡◌, ℕ, List, Some}
 use Rattle.dn_wire.specs.declared.ids.Round.{Round}
 use Rattle.dn_wire.specs.declared.ids.SignerId.TheVariants.{Client, Server}
-use Rattle.dn_records.specs.declared.body.Body.{Body}
-use Rattle.dn_records.specs.declared.inventory.Entry.{Entry}
-use Rattle.dn_records.specs.declared.statement.Statement.TheVariants.{Submission, Sign}
+use Rattle.dn_record_types.specs.declared.body.Body.{Body}
+use Rattle.dn_record_types.specs.declared.inventory.Entry.{Entry}
+use Rattle.dn_record_types.specs.declared.statement.Statement.TheVariants.{Submission, Sign}
 use Rattle.dn_roster.specs.Roster.{RosterView, key_of, digest_of}
 use Rattle.dn_seal.specs.Signer.{envelope}
 use Rattle.dn_seal.specs.Said.{Signs}

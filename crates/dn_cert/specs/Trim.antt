@@ -3,9 +3,9 @@ use Rattle.std.specs.Prelude.{◌≡◌, ℕ, ◌<◌, ◌==◌, List, map, filt
 use Rattle.dn_wire.specs.declared.ids.ClientId.{ClientId}
 use Rattle.dn_records.specs.Lists.{Ascend}
 use Rattle.dn_records.specs.Records.{inventory}
-use Rattle.dn_records.specs.declared.inventory.Entry.{Entry}
-use Rattle.dn_records.specs.declared.inventory.Inventory.{Inventory}
-use Rattle.dn_records.specs.declared.body.Listed.{Listed}
+use Rattle.dn_record_types.specs.declared.inventory.Entry.{Entry}
+use Rattle.dn_record_types.specs.declared.inventory.Inventory.{Inventory}
+use Rattle.dn_record_types.specs.declared.body.Listed.{Listed}
 
 -- it keeps the limits and orders of its format
 abbrev pub IsInventory : Inventory → Type 0

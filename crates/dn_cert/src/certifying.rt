@@ -1,7 +1,7 @@
 ghost use Rattle.std.specs.Prelude.{◌≡◌, ℕ, List, length, IfOk};
 ghost use Rattle.dn_records.specs.Records.{IsPayload, payload_bytes};
-ghost use Rattle.dn_records.specs.declared.body.Body.{Body as BodyOf};
-ghost use Rattle.dn_records.specs.declared.payload.Payload.TheVariants as payloads;
+ghost use Rattle.dn_record_types.specs.declared.body.Body.{Body as BodyOf};
+ghost use Rattle.dn_record_types.specs.declared.payload.Payload.TheVariants as payloads;
 ghost use Rattle.dn_roster.specs.Roster.{digest_of};
 ghost use Rattle.dn_cert.specs.Certificate.{IsCertificate, IsCertificateUnder, IsSigned};
 

@@ -1,8 +1,8 @@
 // Laws of chains, for those who build on them.
 ghost use Rattle.std.specs.Prelude.{◌≡◌, ◌⊎◌, List, ℕ, [], length, Contains, IsTrue};
 ghost use Rattle.dn_wire.specs.declared.ids.SignerId.{SignerId};
-ghost use Rattle.dn_records.specs.declared.body.Body.{Body};
-ghost use Rattle.dn_records.specs.declared.statement.Statement.{Statement};
+ghost use Rattle.dn_record_types.specs.declared.body.Body.{Body};
+ghost use Rattle.dn_record_types.specs.declared.statement.Statement.{Statement};
 ghost use Rattle.dn_cert.specs.declared.rules.Valid.{Valid};
 ghost use Rattle.dn_cert.specs.Evidence.{IsValid};
 ghost use Rattle.dn_cert.specs.Chain.{ChainView, bodies, Holds, IsChain, IsRound, IsLayoutAfter, count_at, CanFollow, HasCertificate, with_held, Agree};

@@ -2,8 +2,8 @@ ghost use Rattle.std.specs.Prelude.{◌≡◌, ◌↔◌, ◌⊎◌, ◌<◌, �
 ghost use Rattle.std.specs.Int.{w32, from_be_bytes};
 ghost use Rattle.dn_records.specs.Part.{Gives};
 ghost use Rattle.dn_records.specs.Records.{IsPayload, body_bytes, payload_bytes, statement_bytes};
-ghost use Rattle.dn_records.specs.declared.body.Body.{Body};
-ghost use Rattle.dn_records.specs.declared.payload.Payload.TheVariants as payloads;
+ghost use Rattle.dn_record_types.specs.declared.body.Body.{Body};
+ghost use Rattle.dn_record_types.specs.declared.payload.Payload.TheVariants as payloads;
 ghost use Rattle.dn_roster.specs.Roster.{digest_of};
 ghost use Rattle.dn_cert.specs.Certificate.{IsCertificate, IsCertificateUnder, IsOfRoster, digests_due, IsSigned, ArePartsRefused, IsRefused, FirstUnsigned, certificate_of};
 

@@ -2,9 +2,10 @@
 //! are judged.
 //!
 //! `trim` makes one list of the inventories of all servers. `check` reads a payload as a certificate under a roster: a body that
-//! every server signed; `certify` makes one of signatures that are known to verify. `open_payload` opens a payload of any kind, with all that it carries. A `Chain` holds the bodies of certificates by
-//! their rounds, each after that of its prev, with the layout after each round, and asks each to be thin exactly where the floor of `is_due_thin` says so. `Rules` says when an accusation holds and when a
-//! rebuttal is good. `specs/` has a definition for each of these, and the laws are public functions.
+//! every server signed; `certify` makes one of signatures that are known to verify. `open_payload` opens a payload of any kind,
+//! with all that it carries. A `Chain` holds the bodies of certificates by their rounds, each after that of its prev, with the
+//! layout after each round, and asks each to be thin exactly where the floor of `is_due_thin` says so. `Rules` says when an
+//! accusation holds and when a rebuttal is good. `specs/` has a definition for each of these, and the laws are public functions.
 #![tactic(auto)]
 
 mod certificate;

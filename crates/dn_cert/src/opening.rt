@@ -1,7 +1,7 @@
 ghost use Rattle.std.specs.Prelude.{◌≡◌, ◌⊎◌, ◌↔◌, Ok, IfOk, IfErr, IsTrue, MatchResult, ⊤};
 ghost use Rattle.dn_records.specs.Records.{payload_bytes, payload_of, IsPayload};
-ghost use Rattle.dn_records.specs.declared.payload.Payload.{Payload};
-ghost use Rattle.dn_records.specs.declared.payload.Payload.TheVariants as payloads;
+ghost use Rattle.dn_record_types.specs.declared.payload.Payload.{Payload};
+ghost use Rattle.dn_record_types.specs.declared.payload.Payload.TheVariants as payloads;
 ghost use Rattle.dn_seal.specs.Challenge.{IsChallenge};
 ghost use Rattle.dn_cert.specs.declared.opened.Opened.{Opened};
 ghost use Rattle.dn_cert.specs.Opening.{IsSubmission, IsOpened, IsClosed, IsNoPayload, IsUnopenedPayload};

@@ -2,8 +2,8 @@
 ghost use Rattle.std.specs.Prelude.{◌≡◌, ◌<◌, ℕ, List, length, All, Contains, IsPermutation, slice_get, Some};
 ghost use Rattle.std.specs.List.{flat_map, range_with_len};
 ghost use Rattle.dn_wire.specs.declared.ids.ClientId.{ClientId};
-ghost use Rattle.dn_records.specs.declared.inventory.Inventory.{Inventory};
-ghost use Rattle.dn_records.specs.declared.body.Listed.{Listed};
+ghost use Rattle.dn_record_types.specs.declared.inventory.Inventory.{Inventory};
+ghost use Rattle.dn_record_types.specs.declared.body.Listed.{Listed};
 ghost use Rattle.dn_cert.specs.Trim.{IsInventory, HasEntry, Names, IsTrim, given_to};
 
 /// One list of inventories has one trimmed list.

@@ -11,10 +11,9 @@ use Rattle.std.proofs.lemmas.List.FromFn.{length-map-range_with_len, get_or-map-
 use Rattle.std.proofs.lemmas.List.Elements.{filter-append, All-head, All-tail, All-get_or, All-from_get_or, All-filter}
 use Rattle.dn_bits.proofs.WordLemmas.{length-zeros}
 use Rattle.dn_pads.specs.Pads.{keystream_bit}
-use Rattle.dn_script.specs.Plain.{Plain, or_else, said_in, said_by, message}
-use Rattle.dn_script.specs.Spelling.{Fits, IsScript}
-use Rattle.dn_script.specs.declared.line.PlainLine.{PlainLine}
-use Rattle.dn_script.specs.declared.line.PlainLine.TheVariants.{Say, Submit, Tick, Close}
+use Rattle.dn_script.specs.Plain.{Plain, or_else, said_in, said_by, message, Fits, IsScript}
+use Rattle.dn_script.specs.declared.plain_line.PlainLine.{PlainLine}
+use Rattle.dn_script.specs.declared.plain_line.PlainLine.TheVariants.{Say, Submit, Tick, Close}
 use Rattle.dn_cmd.specs.Round.{pair_seed, pair_pad, counted, cipher, held, server, output}
 use Rattle.dn_cmd.specs.Window.{has_window, is_included, with_lines}
 use Rattle.dn_bits.specs.Bits.{below, zeros, xor_bits, sum_bits}

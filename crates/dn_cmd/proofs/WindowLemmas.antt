@@ -15,7 +15,7 @@ use Rattle.dn_told.specs.Window.{WindowEvent, Submit, Tick, Close, told_after, i
 use Rattle.dn_told.proofs.WindowLemmas.{included-append}
 use Rattle.dn_window.specs.Closing.{with_tick, with_close, tick_closes}
 use Rattle.dn_window.specs.Window.{WindowState, IsAfter, clients_of, opened}
-use Rattle.dn_script.specs.declared.line.PlainLine.{PlainLine}
+use Rattle.dn_script.specs.declared.plain_line.PlainLine.{PlainLine}
 use Rattle.dn_cmd.specs.Window.{with_ticks, with_line, with_lines, answer_to, lines_text, is_included, IsAt, marked_by}
 
 -- ---- ticks

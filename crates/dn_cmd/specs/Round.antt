@@ -6,8 +6,7 @@ use Rattle.std.specs.Fmt.{decimal}
 use Rattle.rand_chacha.specs.ChaCha.{word_at, key_of}
 use Rattle.dn_bits.specs.Bits.{below, xor_bits, sum_bits}
 use Rattle.dn_pads.specs.Pads.{pad_of}
-use Rattle.dn_script.specs.Plain.{Plain, message}
-use Rattle.dn_script.specs.Spelling.{hex_of}
+use Rattle.dn_script.specs.Plain.{Plain, message, hex_of}
 pub use Rattle.dn_cmd.specs.Window.{counted}
 use Rattle.dn_cmd.specs.Window.{window_text}
 

@@ -4,22 +4,21 @@ use Rattle.dn_wire.specs.declared.limits.TheConstants.{MAX_SCRIPT_BYTES}
 use Rattle.dn_io.specs.declared.status.Status.{Status}
 use Rattle.dn_io.specs.declared.status.Status.TheVariants as status
 use Rattle.dn_io.specs.Task.{Task}
-use Rattle.dn_script.specs.declared.reader.ScriptFault.{ScriptFault}
-use Rattle.dn_script.specs.declared.reader.ScriptFault.TheVariants.{BadLine, NoMemory}
-use Rattle.dn_script.specs.Plain.{Plain}
-use Rattle.dn_script.specs.Reading.{parts_of}
-use Rattle.dn_script.specs.Spelling.{Spells}
-use Rattle.dn_script.specs.FirstBad.{IsFirstBad}
+use Rattle.dn_script.specs.declared.script.ScriptFault.{ScriptFault}
+use Rattle.dn_script.specs.declared.script.ScriptFault.TheVariants.{BadLine, NoMemory}
+use Rattle.dn_script.specs.Plain.{Plain, SpellsPlain, SpellsGroup}
+use Rattle.dn_script.specs.Script.{IsFirstBad}
 use Rattle.dn_cmd.specs.Round.{plain_text}
 
--- the text's first bad line, and what is wrong with it
+-- the text's first bad line, and what is wrong with it; or the text spells a script of a group, which isn't run yet
 abbrev pub IsRefused : List ℕ → Status → Type 0
-IsRefused text (status.BadLine number cause) = IsFirstBad (parts_of text) number cause
+IsRefused text (status.BadLine number cause) = IsFirstBad text number cause
+IsRefused text status.Unbuilt = SpellsGroup text
 IsRefused text status = ⊥
 
--- the text spells a script, and this is what the script gives
+-- the text spells a plain script, and this is what the script gives
 abbrev pub IsScriptFor : List ℕ → List ℕ → Type 0
-IsScriptFor text due = (p : Plain) × Spells text p × (due ≡ plain_text p)
+IsScriptFor text due = (p : Plain) × SpellsPlain text p × (due ≡ plain_text p)
 
 abbrev pub script_task : Task
 script_task = record { limit = MAX_SCRIPT_BYTES; Refuses = IsRefused; Due = IsScriptFor }

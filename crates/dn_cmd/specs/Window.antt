@@ -10,8 +10,8 @@ use Rattle.dn_told.specs.Window as event
 use Rattle.dn_window.specs.Closing.{ticks_of, count_of, with_tick, with_close}
 use Rattle.dn_window.specs.Window.{WindowState, IsAfter, clients_of}
 use Rattle.dn_script.specs.Plain.{Plain}
-use Rattle.dn_script.specs.declared.line.PlainLine.{PlainLine}
-use Rattle.dn_script.specs.declared.line.PlainLine.TheVariants.{Say, Submit, Tick, Close}
+use Rattle.dn_script.specs.declared.plain_line.PlainLine.{PlainLine}
+use Rattle.dn_script.specs.declared.plain_line.PlainLine.TheVariants.{Say, Submit, Tick, Close}
 
 -- the line is one of a window
 abbrev pub is_window_line : PlainLine → Bool

@@ -6,7 +6,7 @@ ghost use Rattle.dn_cmd.specs.Run.{script_task, refusal_of};
 
 use crate::text::plain_text;
 use dn_io::{Sink, Source, Status, read_whole, write_whole};
-use dn_script::{ScriptFault, read_script};
+use dn_script::{ScriptFault, parse_script, plain_script};
 use dn_wire::MAX_SCRIPT_BYTES;
 use std::alloc::Global;
 use std::sync::Wait;
@@ -45,7 +45,7 @@ fn refusal(fault: ScriptFault) -> Status
     }
 }
 
-/// Reads a script whole, and writes its text.
+/// Reads a script whole, and writes its text where it is a plain one.
 fn run<S: Source, K: Sink>(alloc: Global, input: &mut S, output: &mut K) -> Status
     ensures { let before : Outside = record {
       left = S.left input.old;
@@ -65,11 +65,16 @@ fn run<S: Source, K: Sink>(alloc: Global, input: &mut S, output: &mut K) -> Stat
         Ok(text) => text,
         Err(end) => return Status::from(end),
     };
-    let script = match read_script(alloc, &text) {
+    let script = match parse_script(alloc, &text) {
         Ok(script) => script,
         Err(fault) => return refusal(fault),
     };
-    let Ok(due) = plain_text(alloc, &script) else {
+    let plain = match plain_script(alloc, &script) {
+        Ok(Some(plain)) => plain,
+        Ok(None) => return Status::Unbuilt,
+        Err(_) => return Status::NoMemory,
+    };
+    let Ok(due) = plain_text(alloc, &plain) else {
         return Status::NoMemory;
     };
     match write_whole(output, &due) {

@@ -1,6 +1,6 @@
 ghost use Rattle.std.specs.Prelude.{◌≡◌, ◌<◌, IfOk, length, map};
 ghost use Rattle.dn_bits.specs.Bits.{xor_bits, sum_bits, below};
-ghost use Rattle.dn_script.specs.Spelling.{IsScript};
+ghost use Rattle.dn_script.specs.Plain.{IsScript};
 ghost use Rattle.dn_cmd.specs.Round as spec;
 
 use crate::dealing::pair_seed;

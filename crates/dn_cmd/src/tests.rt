@@ -122,12 +122,12 @@ fn sums_are_written(rt: HostRuntime) -> Result<(), Fail> {
 
 /// The first line's numbers, the further lines, the first bad line and its cause.
 const FAULTS: [(&str, &str, u64, Cause); 7] = [
-    ("2 1 8", "tick 101\nend\n", 2, Cause::Unbuilt),
-    ("2 1 8", "submit 2\nend\n", 2, Cause::Unbuilt),
-    ("1 1 8", "say 0 01\nsay 0 01\nend\n", 3, Cause::Unbuilt),
-    ("1 1 9", "say 0 ff81\nend\n", 2, Cause::Unbuilt),
-    ("1 1 8", "say 0 FF\nend\n", 2, Cause::Unbuilt),
-    ("1 1 8", "say 00 ff\nend\n", 2, Cause::Unbuilt),
+    ("2 1 8", "tick 101\nend\n", 2, Cause::Range(1)),
+    ("2 1 8", "submit 2\nend\n", 2, Cause::Range(1)),
+    ("1 1 8", "say 0 01\nsay 0 01\nend\n", 3, Cause::Order),
+    ("1 1 9", "say 0 ff81\nend\n", 2, Cause::Range(2)),
+    ("1 1 8", "say 0 FF\nend\n", 2, Cause::Hex(2)),
+    ("1 1 8", "say 00 ff\nend\n", 2, Cause::Number(1)),
     ("1 1 8", "say 0 ff\n", 3, Cause::Missing),
 ];
 
@@ -150,6 +150,18 @@ fn status_of<R: Threads + Wait + Sync>(
     let mut input = SureSource::make(bytes, 65_536);
     let mut output = SureSink::make(alloc, 1)?;
     Ok(dissent(rt, alloc, &words(alloc, "run")?, &mut input, &mut output))
+}
+
+#[test]
+fn a_group_script_is_good_and_not_run(rt: HostRuntime) -> Result<(), Fail> {
+    let alloc = rt.alloc();
+    let text = format!(in alloc; "# a group\r\n\tgroup  2 1 2 5 5 {SEED} \n\ncorrupt c1\nend")?;
+    let mut input = SureSource::make(Vec::from_slice(alloc, text.as_bytes())?, 7);
+    let mut output = SureSink::make(alloc, 1)?;
+    let status = dissent(&rt, alloc, &words(alloc, "run")?, &mut input, &mut output);
+    assert_eq!(rt; status, Status::Unbuilt);
+    assert!(rt; output.bytes().is_empty());
+    Ok(())
 }
 
 #[test]

@@ -1,6 +1,6 @@
 ghost use Rattle.std.specs.Prelude.{◌≡◌, ◌++◌, IfOk, OnOk, map};
 ghost use Rattle.dn_bits.specs.Bits.{below};
-ghost use Rattle.dn_script.specs.Spelling.{IsScript, hex_of};
+ghost use Rattle.dn_script.specs.Plain.{IsScript, hex_of};
 ghost use Rattle.dn_cmd.specs.Round as spec;
 
 use crate::round::{ciphers, servers, total};

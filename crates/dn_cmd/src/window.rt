@@ -5,7 +5,7 @@ ghost use Rattle.dn_bits.specs.Bits.{below};
 ghost use Rattle.dn_told.specs.Window as event;
 ghost use Rattle.dn_window.specs.Window.{IsAfter, clients_of};
 ghost use Rattle.dn_window.specs.Closing.{with_close};
-ghost use Rattle.dn_script.specs.Spelling.{Fits, IsScript};
+ghost use Rattle.dn_script.specs.Plain.{Fits, IsScript};
 ghost use Rattle.dn_cmd.specs.Window as spec;
 
 use dn_memory::NoMemory;

@@ -2,14 +2,13 @@
 use Rattle.std.specs.Prelude.{ℕ, List, ◌++◌, codes}
 use Rattle.std.specs.Fmt.{decimal}
 use Rattle.dn_io.specs.declared.cause.Cause.{Cause}
-use Rattle.dn_io.specs.declared.cause.Cause.TheVariants.{Bytes, Many, Word, Unbuilt, Order, Fields, Number, Hex, Range, Honest, Corrupt, Missing}
+use Rattle.dn_io.specs.declared.cause.Cause.TheVariants.{Bytes, Many, Word, Order, Fields, Number, Hex, Range, Honest, Corrupt, Missing}
 
 -- the cause as it is written: its word, and the field where it has one
 unfoldable pub cause_text : Cause → List ℕ
 cause_text Bytes = codes "bytes"
 cause_text Many = codes "many"
 cause_text Word = codes "word"
-cause_text Unbuilt = codes "unbuilt"
 cause_text Order = codes "order"
 cause_text Fields = codes "fields"
 cause_text (Number field) = codes "number " ++ decimal field

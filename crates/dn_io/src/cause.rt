@@ -10,8 +10,6 @@ pub enum Cause {
     Many,
     /// The first field is no word of a script.
     Word,
-    /// A line that isn't built yet.
-    Unbuilt,
     /// The word may not stand there.
     Order,
     /// Another number of fields than the line has.
@@ -42,7 +40,6 @@ impl fmt::Display for Cause {
             Cause::Bytes => f.write_str("bytes"),
             Cause::Many => f.write_str("many"),
             Cause::Word => f.write_str("word"),
-            Cause::Unbuilt => f.write_str("unbuilt"),
             Cause::Order => f.write_str("order"),
             Cause::Fields => f.write_str("fields"),
             Cause::Number(field) => write!(f, "number {field}"),

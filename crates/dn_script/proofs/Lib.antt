@@ -1,5 +1,9 @@
-pub mod FieldLemmas
-pub mod ReadingLemmas
-pub mod SpellingLemmas
-pub mod AgainLemmas
-pub mod FirstBadLemmas
+pub mod WordsLaws
+pub mod JudgeLaws
+pub mod RowLaws
+pub mod FieldLaws
+pub mod LineLaws
+pub mod KnownLaws
+pub mod ScriptLaws
+pub mod PlainLaws
+pub mod ParsingLaws

@@ -1,5 +1,8 @@
+pub mod Words
+pub mod Judged
+pub mod Row
+pub mod Context
+pub mod Script
+pub mod Spelled
 pub mod Plain
-pub mod Fields
-pub mod Reading
-pub mod Spelling
-pub mod FirstBad
+pub mod Parsed

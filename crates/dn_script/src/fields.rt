@@ -1,165 +1,227 @@
-ghost use Rattle.std.specs.Prelude.{◌≡◌, ◌↔◌, ℕ, ◌+◌, ◌<◌, ◌≤◌, List, length, IsTrue, MatchOption, MatchResult};
-ghost use Rattle.std.specs.Result.{result_ok};
-ghost use Rattle.std.specs.Str.{bytes_eq};
-ghost use Rattle.std.specs.Str.Parse.{AllDigits, digits_value};
-ghost use Rattle.hex.specs.Hex.{encode_lower, decode_of};
-ghost use Rattle.dn_bits.specs.Bits.{bytes_of};
-ghost use Rattle.dn_script.specs.Fields.{Gives, cut, number_in, seed_of, bits_of, IsProper};
+// The next field of a line, which has this number.
 
-use dn_bits::{Bits, BitsFault};
-use dn_memory::NoMemory;
-use hex::FromHexError;
+ghost use Rattle.std.specs.Prelude.{◌≡◌, ◌∷◌, [], ◌+◌, ◌/◌, length, is_none, MatchResult, Ok, Err, if◌then◌else◌};
+ghost use Rattle.dn_io.specs.declared.cause.Cause.{Cause};
+ghost use Rattle.dn_lines.specs.Fields.{bytes_in};
+ghost use Rattle.dn_script.specs.Words.{has};
+ghost use Rattle.dn_script.specs.Judged.{seen_as, within, bytes_within, any_bytes, bytes_or_none, client_in, server_in, member_in, corrupt_member, corrupt_server, honest_server, honest_client};
+ghost use Rattle.dn_script.specs.Row.{Tells, Takes, take_judged, no_more};
+ghost use Rattle.dn_script.specs.Script.{round, place, client_number, seed, bits, has_bits_behind, place_or_first};
+
+use crate::flaw::{Flaw, LineFault, bad};
+use crate::judging::{
+    GroupView, client, corrupt_member, corrupt_server, honest_client, honest_server, member,
+    number, server, small,
+};
+use crate::words::Words;
+use dn_io::Cause;
+use dn_lines::bytes;
+use dn_wire::{Bytes, ClientId, MAX_BITS, MAX_ROUND, Member, Round, ServerId};
 use std::alloc::Global;
 
-/// Why a line was not read.
-#[derive(Clone, Copy, Debug, PartialEq, Eq)]
-pub enum LineFault {
-    Form,
-    NoMemory,
-}
-
-impl From<NoMemory> for LineFault {
-    ghost use Rattle.std.specs.Prelude.{◌≡◌};
-    ghost use Rattle.dn_script.specs.declared.fields.LineFault.TheVariants.{NoMemory as Refused};
-
-    ghost from_gives = { λ _ e. e ≡ Refused };
-
-    fn from(_: NoMemory) -> Self {
-        LineFault::NoMemory
-    }
-}
-
-/// What stands before the first such byte, and what behind it.
-pub fn split(byte: u8, line: &[u8]) -> Option<(&[u8], &[u8])>
-    ensures { MatchOption result (cut byte line.now ≡ None)
-        (λ x. cut byte line.now ≡ Some (x.0.now, x.1.now)) }
+/// So many fields are left.
+pub fn expect(words: &Words, low: u32, high: u32) -> Result<(), LineFault>
+    ensures { Tells (λ x. x) result (if has low high words.now then Ok tt else Err Cause.Fields) }
 {
-    for (i, b) in line.iter().enumerate() {
-        if *b == byte {
-            return Some((&line[..i], &line[i + 1..]));
-        }
-    }
-    None
-}
-
-/// What stands before the first blank, and what behind it.
-pub fn cut(line: &[u8]) -> Result<(&[u8], &[u8]), LineFault>
-    ensures { Gives (λ x. (x.0.now, x.1.now)) result (cut 32 line.now) }
-{
-    match split(b' ', line) {
-        Some(parts) => Ok(parts),
-        None => Err(LineFault::Form),
+    if words.has(low, high) {
+        Ok(())
+    } else {
+        Err(LineFault::Bad(Cause::Fields))
     }
 }
 
-/// Whether there are characters, and no zero in front of others.
-fn is_proper(field: &[u8]) -> bool
-    ensures { IsTrue result ↔ IsProper field.now }
+/// No field is left.
+pub fn end_of(words: &mut Words) -> Result<(), LineFault>
+    ensures { Tells (λ x. x) result (no_more words.old) }
 {
-    match field {
-        [] => false,
-        [_] => true,
-        [first, ..] => *first != b'0',
+    match words.take() {
+        None => Ok(()),
+        Some(_) => Err(LineFault::Bad(Cause::Fields)),
     }
 }
 
-/// The value of decimal digits, where it is at most high.
-fn value_of(field: &[u8], high: u32) -> Option<u32>
-    ensures { MatchOption result (AllDigits 10 field.now → high < digits_value 10 field.now)
-        (λ value. AllDigits 10 field.now × (value ≡ digits_value 10 field.now) × (value ≤ high)) }
+/// The next field, which must be there.
+pub fn text_of<'a>(words: &mut Words<'a>) -> Result<&'a [u8], LineFault>
+    ensures { MatchResult result (λ text. words.old ≡ text.now ∷ words.new)
+        (λ e. (e ≡ LineFault.Bad Cause.Fields) × (words.old ≡ [])) }
 {
-    let mut value = 0u32;
-    for b in field {
-        if !b.is_ascii_digit() {
-            return None;
-        }
-        let next = 10 * u64::from(value) + u64::from(*b - b'0');
-        if next > u64::from(high) {
-            return None;
-        }
-        value = next as u32;
-    }
-    Some(value)
+    words.take().ok_or(LineFault::Bad(Cause::Fields))
 }
 
-/// A number in its range.
-pub fn number(low: u32, high: u32, field: &[u8]) -> Result<u32, LineFault>
-    ensures { Gives (λ x. x) result (number_in low high field.now) }
+pub fn number_at(words: &mut Words, n: u32, low: u64, high: u64) -> Result<u64, LineFault>
+    ensures { Takes (λ x. x) result words.new (take_judged (within low high) n words.old) }
 {
-    if !is_proper(field) {
-        return Err(LineFault::Form);
+    match number(low, high, text_of(words)?) {
+        Ok(value) => Ok(value),
+        Err(flaw) => Err(bad(n, flaw)),
     }
-    let Some(value) = value_of(field, high) else {
-        return Err(LineFault::Form);
-    };
-    if value < low {
-        return Err(LineFault::Form);
-    }
-    Ok(value)
 }
 
-/// Whether the text is that of the seed.
-fn spells_seed(seed: &[u8; 32], field: &[u8]) -> bool
-    ensures { result ≡ bytes_eq field.now (encode_lower seed.now) }
+pub fn small_at(words: &mut Words, n: u32, low: u32, high: u32) -> Result<u32, LineFault>
+    ensures { Takes (λ x. x) result words.new (take_judged (within low high) n words.old) }
 {
-    let mut text = [0; 64];
-    if hex::encode_to_slice(seed.as_slice(), &mut text).is_err() {
-        return false;
+    match small(low, high, text_of(words)?) {
+        Ok(value) => Ok(value),
+        Err(flaw) => Err(bad(n, flaw)),
     }
-    field == text.as_slice()
 }
 
-/// The seed that 64 digits spell.
-pub fn seed(field: &[u8]) -> Result<[u8; 32], LineFault>
-    ensures { Gives (λ x. x) result (seed_of field.now) }
+pub fn client_at(words: &mut Words, n: u32, group: GroupView) -> Result<ClientId, LineFault>
+    ensures { Takes (λ x. x) result words.new (take_judged (client_in (seen_as group.entry)) n words.old) }
 {
+    match client(group, text_of(words)?) {
+        Ok(value) => Ok(value),
+        Err(flaw) => Err(bad(n, flaw)),
+    }
+}
+
+pub fn server_at(words: &mut Words, n: u32, group: GroupView) -> Result<ServerId, LineFault>
+    ensures { Takes (λ x. x) result words.new (take_judged (server_in (seen_as group.entry)) n words.old) }
+{
+    match server(group, text_of(words)?) {
+        Ok(value) => Ok(value),
+        Err(flaw) => Err(bad(n, flaw)),
+    }
+}
+
+pub fn member_at(words: &mut Words, n: u32, group: GroupView) -> Result<Member, LineFault>
+    ensures { Takes (λ x. x) result words.new (take_judged (member_in (seen_as group.entry)) n words.old) }
+{
+    match member(group, text_of(words)?) {
+        Ok(value) => Ok(value),
+        Err(flaw) => Err(bad(n, flaw)),
+    }
+}
+
+pub fn corrupt_member_at(words: &mut Words, n: u32, group: GroupView) -> Result<Member, LineFault>
+    ensures { Takes (λ x. x) result words.new (take_judged (corrupt_member (seen_as group.entry)) n words.old) }
+{
+    match corrupt_member(group, text_of(words)?) {
+        Ok(value) => Ok(value),
+        Err(flaw) => Err(bad(n, flaw)),
+    }
+}
+
+pub fn corrupt_server_at(words: &mut Words, n: u32, group: GroupView) -> Result<ServerId, LineFault>
+    ensures { Takes (λ x. x) result words.new (take_judged (corrupt_server (seen_as group.entry)) n words.old) }
+{
+    match corrupt_server(group, text_of(words)?) {
+        Ok(value) => Ok(value),
+        Err(flaw) => Err(bad(n, flaw)),
+    }
+}
+
+pub fn honest_server_at(words: &mut Words, n: u32, group: GroupView) -> Result<ServerId, LineFault>
+    ensures { Takes (λ x. x) result words.new (take_judged (honest_server (seen_as group.entry)) n words.old) }
+{
+    match honest_server(group, text_of(words)?) {
+        Ok(value) => Ok(value),
+        Err(flaw) => Err(bad(n, flaw)),
+    }
+}
+
+pub fn honest_client_at(words: &mut Words, n: u32, group: GroupView) -> Result<Member, LineFault>
+    ensures { Takes (λ x. x) result words.new (take_judged (honest_client (seen_as group.entry)) n words.old) }
+{
+    match honest_client(group, text_of(words)?) {
+        Ok(value) => Ok(value),
+        Err(flaw) => Err(bad(n, flaw)),
+    }
+}
+
+pub fn round_at(words: &mut Words, n: u32) -> Result<Round, LineFault>
+    ensures { Takes (λ x. x) result words.new (take_judged round n words.old) }
+{
+    Ok(Round(number_at(words, n, 1, MAX_ROUND)?))
+}
+
+pub fn client_number_at(words: &mut Words, n: u32, clients: u32) -> Result<ClientId, LineFault>
+    ensures { Takes (λ x. x) result words.new (take_judged (client_number clients) n words.old) }
+{
+    Ok(ClientId(small_at(words, n, 0, clients.saturating_sub(1))?))
+}
+
+pub fn place_at(words: &mut Words, n: u32) -> Result<u32, LineFault>
+    ensures { Takes (λ x. x) result words.new (take_judged place n words.old) }
+{
+    small_at(words, n, 0, MAX_BITS - 1)
+}
+
+pub fn place_or_first_at(words: &mut Words, n: u32) -> Result<Option<u32>, LineFault>
+    ensures { Takes (λ x. x) result words.new (take_judged place_or_first n words.old) }
+{
+    let text = text_of(words)?;
+    if text == b"first".as_slice() {
+        return Ok(None);
+    }
+    match small(0, MAX_BITS - 1, text) {
+        Ok(place) => Ok(Some(place)),
+        Err(flaw) => Err(bad(n, flaw)),
+    }
+}
+
+/// The bytes that field n spells.
+fn bytes_in(alloc: Global, n: u32, text: &[u8]) -> Result<Vec<u8>, LineFault>
+    ensures { Tells (λ v. v.items) result (if is_none (bytes_in text.now) then Err (Cause.Hex n) else Ok (bytes_or_none text.now)) }
+{
+    match bytes(alloc, text) {
+        Ok(bytes) => Ok(bytes),
+        Err(dn_lines::LineFault::Grammar) => Err(bad(n, Flaw::Hex)),
+        Err(dn_lines::LineFault::NoMemory) => Err(LineFault::NoMemory),
+    }
+}
+
+pub fn any_bytes_at(alloc: Global, words: &mut Words, n: u32) -> Result<Bytes, LineFault>
+    ensures { Takes (λ x. x) result words.new (take_judged any_bytes n words.old) }
+{
+    Ok(Bytes::of(bytes_in(alloc, n, text_of(words)?)?))
+}
+
+pub fn bytes_at(
+    alloc: Global,
+    words: &mut Words,
+    n: u32,
+    low: usize,
+    high: usize,
+) -> Result<Bytes, LineFault>
+    ensures { Takes (λ x. x) result words.new (take_judged (bytes_within low high) n words.old) }
+{
+    let bytes = bytes_in(alloc, n, text_of(words)?)?;
+    if bytes.len() < low || high < bytes.len() {
+        return Err(bad(n, Flaw::Range));
+    }
+    Ok(Bytes::of(bytes))
+}
+
+pub fn seed_at(alloc: Global, words: &mut Words, n: u32) -> Result<[u8; 32], LineFault>
+    ensures { Takes (λ x. x) result words.new (take_judged seed n words.old) }
+{
+    let bytes = bytes_in(alloc, n, text_of(words)?)?;
+    if bytes.len() != 32 {
+        return Err(bad(n, Flaw::Range));
+    }
     let mut seed = [0; 32];
-    if hex::decode_to_slice(field, &mut seed).is_err() {
-        return Err(LineFault::Form);
-    }
-    if !spells_seed(&seed, field) {
-        return Err(LineFault::Form);
-    }
+    seed.copy_from_slice(&bytes);
     Ok(seed)
 }
 
-/// Whether a field spells these bits.
-fn spells_bits(alloc: Global, bits: &Bits, field: &[u8]) -> Result<bool, LineFault>
-    ensures { MatchResult result (λ b. b ≡ bytes_eq field.now (encode_lower (bytes_of bits.now)))
-        (λ e. e ≡ LineFault.NoMemory) }
+/// Whether a bit behind the first n is set.
+fn has_bits_behind(n: u32, bytes: &[u8]) -> bool
+    requires { length bytes.now ≡ (n + 7) / 8 }
+    ensures { result ≡ has_bits_behind n bytes.now }
 {
-    let mut bytes = Vec::new(alloc);
-    bits.write_bytes(alloc, &mut bytes)?;
-    match hex::encode(alloc, &bytes) {
-        Ok(text) => Ok(field == text.as_bytes()),
-        Err(_) => Err(LineFault::NoMemory),
+    match bytes.last() {
+        None => false,
+        Some(last) => u32::from(*last) % (1 << ((8 - n % 8) % 8)) != 0,
     }
 }
 
-/// The bytes that hex digits spell.
-fn bytes(alloc: Global, field: &[u8]) -> Result<Vec<u8>, LineFault>
-    ensures { Gives (λ v. v.items) result (result_ok (decode_of field.now)) }
+pub fn bits_at(alloc: Global, words: &mut Words, n: u32, count: u32) -> Result<Bytes, LineFault>
+    ensures { Takes (λ x. x) result words.new (take_judged (bits count) n words.old) }
 {
-    match hex::decode(alloc, field) {
-        Ok(bytes) => Ok(bytes),
-        Err(FromHexError::OutOfMemory) => Err(LineFault::NoMemory),
-        Err(_) => Err(LineFault::Form),
+    let bytes = bytes_in(alloc, n, text_of(words)?)?;
+    if bytes.len() != count.div_ceil(8) as usize || has_bits_behind(count, &bytes) {
+        return Err(bad(n, Flaw::Range));
     }
-}
-
-/// The bits that a field spells.
-#[tactic(auto, unfolding(crate::specs::Fields::bits_of))]
-pub fn bits(alloc: Global, n: u32, field: &[u8]) -> Result<Bits, LineFault>
-    ensures { Gives (λ x. x) result (bits_of n field.now) }
-{
-    let bytes = bytes(alloc, field)?;
-    let bits = match Bits::from_bytes(alloc, &bytes, n) {
-        Ok(bits) => bits,
-        Err(BitsFault::NoMemory) => return Err(LineFault::NoMemory),
-        Err(BitsFault::Short { .. }) => return Err(LineFault::Form),
-    };
-    if !spells_bits(alloc, &bits, field)? {
-        return Err(LineFault::Form);
-    }
-    Ok(bits)
+    Ok(Bytes::of(bytes))
 }

@@ -1,16 +1,28 @@
-//! Plain scripts: what they say, and how they are read. A script is seen as the numbers of its
-//! first line and the list of the lines behind it. A text is read in its strict form, in which each
-//! script has one spelling: fields with one blank between them, decimal numbers without leading
-//! zeros, lower-case hex, and a line feed at the end of each line.
+//! Scripts of both forms: their lines as data, and how a text is read as a script, with the first line with which something is
+//! wrong and what that is. Fields are separated by blanks and tabs, lines end in a line feed with or without a carriage return,
+//! and blank lines and lines that begin with `#` don't count. A script is seen as the list of its lines with their numbers.
 #![tactic(auto)]
 
+mod context;
 mod fields;
+mod flaw;
+mod judging;
 mod laws;
-mod line;
-mod reader;
+mod line_kinds;
+mod line_words;
+mod lists;
+mod other_rows;
+mod parsing;
+mod plain;
+mod plain_line;
+mod rows;
 mod script;
+mod script_line;
+mod words;
 
-pub use laws::{first_bad, read_again, spelled};
-pub use line::PlainLine;
-pub use reader::{ScriptFault, read_script};
-pub use script::PlainScript;
+pub use laws::{read_again, spelled};
+pub use parsing::parse_script;
+pub use plain::{PlainScript, plain_script};
+pub use plain_line::PlainLine;
+pub use script::{Script, ScriptFault};
+pub use script_line::{ScriptLine, Twist};

@@ -1,9 +1,9 @@
 -- What was said, and its bytes.
 use Rattle.std.proofs.Common.{◌≡◌, ℕ, ◌<◌, List, Some, sym, ap, ◌∙◌}
 use Rattle.dn_wire.specs.declared.ids.SignerId.{SignerId}
-use Rattle.dn_records.specs.declared.statement.Statement.{Statement}
-use Rattle.dn_records.specs.declared.envelope.Envelope.{Envelope}
-use Rattle.dn_records.proofs.RecordLaws.{envelope_once}
+use Rattle.dn_record_types.specs.declared.statement.Statement.{Statement}
+use Rattle.dn_record_types.specs.declared.envelope.Envelope.{Envelope}
+use Rattle.dn_record_types.proofs.RecordLaws.{envelope_once}
 use Rattle.dn_records.specs.Records.{statement_bytes}
 use Rattle.dn_lms.specs.Key.{Key, IsKey, leaf_count}
 use Rattle.dn_lms.specs.Signature.{public_key, lms_signature}

@@ -9,13 +9,13 @@ use Rattle.std.proofs.lemmas.List.FromFn.{length-range_with_len}
 use Rattle.dn_bits.specs.Bits.{below, byte_of, bytes_of}
 use Rattle.dn_wire.specs.declared.ids.SignerId.{SignerId}
 use Rattle.dn_wire.specs.declared.ids.SignerId.TheVariants.{Client, Server, Slot}
-use Rattle.dn_records.specs.declared.inventory.Entry.{Entry}
-use Rattle.dn_records.specs.declared.inventory.Inventory.{Inventory}
-use Rattle.dn_records.specs.declared.body.Listed.{Listed}
-use Rattle.dn_records.specs.declared.body.Body.{Body}
-use Rattle.dn_records.specs.declared.shown.ShownCipher.{ShownCipher}
-use Rattle.dn_records.specs.declared.statement.Statement.{Statement}
-use Rattle.dn_records.specs.declared.statement.Statement.TheVariants as kinds
+use Rattle.dn_record_types.specs.declared.inventory.Entry.{Entry}
+use Rattle.dn_record_types.specs.declared.inventory.Inventory.{Inventory}
+use Rattle.dn_record_types.specs.declared.body.Listed.{Listed}
+use Rattle.dn_record_types.specs.declared.body.Body.{Body}
+use Rattle.dn_record_types.specs.declared.shown.ShownCipher.{ShownCipher}
+use Rattle.dn_record_types.specs.declared.statement.Statement.{Statement}
+use Rattle.dn_record_types.specs.declared.statement.Statement.TheVariants as kinds
 use Rattle.dn_records.specs.Fields.{spell_number, bits, digest}
 use Rattle.dn_records.specs.Lists.{FitsRow, spell_row}
 use Rattle.dn_records.specs.Records.{entry, listed, shown_cipher, spell_thin, statement_bytes, IsStatement}

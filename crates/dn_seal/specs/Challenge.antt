@@ -1,7 +1,7 @@
 -- Opened challenges.
 use Rattle.std.specs.Prelude.{◌≡◌, ◌<◌, ℕ, List, [], length, map, take, All, slice_index_or}
-use Rattle.dn_records.specs.declared.payload.Payload.{Payload}
-use Rattle.dn_records.specs.declared.payload.Payload.TheVariants as payloads
+use Rattle.dn_record_types.specs.declared.payload.Payload.{Payload}
+use Rattle.dn_record_types.specs.declared.payload.Payload.TheVariants as payloads
 use Rattle.dn_roster.specs.Roster.{RosterView}
 use Rattle.dn_seal.specs.declared.unopened.Unopened.{Unopened}
 use Rattle.dn_seal.specs.Said.{SaidView, IsSaid, IsUnder, IsUnopened}

@@ -1,9 +1,9 @@
 -- Statements whose signature verified.
 use Rattle.std.specs.Prelude.{◌≡◌, ◌≢◌, ℕ, List, Some, None, Ok, Err}
 use Rattle.dn_wire.specs.declared.ids.SignerId.{SignerId}
-use Rattle.dn_records.specs.declared.statement.Statement.{Statement}
-use Rattle.dn_records.specs.declared.envelope.Envelope.{Envelope}
-use Rattle.dn_records.specs.declared.fault.RecordFault.TheVariants as faults
+use Rattle.dn_record_types.specs.declared.statement.Statement.{Statement}
+use Rattle.dn_record_types.specs.declared.envelope.Envelope.{Envelope}
+use Rattle.dn_record_types.specs.declared.fault.RecordFault.TheVariants as faults
 use Rattle.dn_records.specs.Records.{statement_bytes, envelope_bytes, envelope_of, IsEnvelope}
 use Rattle.dn_lms.specs.Signature.{Verifies}
 use Rattle.dn_roster.specs.Roster.{RosterView, key_of, digest_of, signed_bytes_of}

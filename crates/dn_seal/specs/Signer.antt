@@ -3,9 +3,9 @@ use Rattle.std.specs.Prelude.{◌≡◌, ◌<◌, ℕ, List, [], ◌∷◌, ◌+
 use Rattle.std.specs.Int.{w32, to_be_bytes}
 use Rattle.dn_wire.specs.Signer.{signer_bytes}
 use Rattle.dn_wire.specs.declared.ids.SignerId.{SignerId}
-use Rattle.dn_records.specs.declared.statement.Statement.{Statement}
+use Rattle.dn_record_types.specs.declared.statement.Statement.{Statement}
 use Rattle.dn_records.specs.Records.{statement_bytes, envelope_bytes, IsEnvelope}
-use Rattle.dn_records.specs.declared.envelope.Envelope.{Envelope}
+use Rattle.dn_record_types.specs.declared.envelope.Envelope.{Envelope}
 use Rattle.dn_lms.specs.Key.{Key}
 use Rattle.dn_lms.specs.Signature.{lms_signature}
 use Rattle.dn_leaf.specs.Drawer.{DrawerId}

@@ -1,7 +1,7 @@
 -- What contracts see of a signing key.
 use Rattle.std.specs.Prelude.{ℕ, List, Bool}
 use Rattle.dn_wire.specs.declared.ids.SignerId.{SignerId}
-use Rattle.dn_records.specs.declared.statement.Statement.{Statement}
+use Rattle.dn_record_types.specs.declared.statement.Statement.{Statement}
 use Rattle.dn_lms.specs.Key.{Key}
 
 -- the digest of its group, its signer, the key, the statements that it signed, in order, and whether a leaf may be lost

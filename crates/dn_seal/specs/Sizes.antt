@@ -1,7 +1,7 @@
 -- How many bytes statements have at most.
 use Rattle.std.specs.Prelude.{ℕ, ◌+◌, ◌*◌, ◌≤◌, length, All}
-use Rattle.dn_records.specs.declared.statement.Statement.{Statement}
-use Rattle.dn_records.specs.declared.statement.Statement.TheVariants as kinds
+use Rattle.dn_record_types.specs.declared.statement.Statement.{Statement}
+use Rattle.dn_record_types.specs.declared.statement.Statement.TheVariants as kinds
 
 -- the longest signature that verifies
 abbrev pub longest_signature : ℕ
@@ -12,7 +12,7 @@ abbrev pub HasShortSignatures : Statement → Type 0
 HasShortSignatures (kinds.Inventory v) = All (λ e. length e.signature ≤ longest_signature) v.entries
 HasShortSignatures _ = Unit {0}
 
--- the number of bits of a string, and its bytes
+-- a string of 65,536 bits: their number, and its bytes
 abbrev pub longest_bits : ℕ
 longest_bits = 4 + 8192
 

@@ -1,5 +1,5 @@
 ghost use Rattle.std.specs.Prelude.{◌≡◌, ◌⊎◌, IfOk, IfErr};
-ghost use Rattle.dn_records.specs.declared.payload.Payload.TheVariants as payloads;
+ghost use Rattle.dn_record_types.specs.declared.payload.Payload.TheVariants as payloads;
 ghost use Rattle.dn_seal.specs.Challenge.{IsChallenge, envelopes_of, AreOpened, IsFirstUnopened};
 
 use crate::said::{Said, unseal};

@@ -8,7 +8,7 @@ ghost use Rattle.dn_wire.specs.Signer.{number_of};
 ghost use Rattle.dn_roster.specs.Dealing.{mask_secret_of};
 ghost use Rattle.dn_roster.specs.Roster.{RosterView, key_of, commitment_of, digest_of};
 ghost use Rattle.dn_records.specs.Records.{statement_bytes, IsStatement};
-ghost use Rattle.dn_records.specs.declared.statement.Statement.{Statement};
+ghost use Rattle.dn_record_types.specs.declared.statement.Statement.{Statement};
 ghost use Rattle.dn_seal.specs.Said.{SaidView, IsSaid, IsUnder, Unseals};
 ghost use Rattle.dn_seal.specs.Signer.{CanSign, sealed_in};
 ghost use Rattle.dn_seal.specs.Sizes.{HasShortSignatures, most_bytes, longest_signature};

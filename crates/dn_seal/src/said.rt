@@ -1,6 +1,6 @@
 ghost use Rattle.std.specs.Prelude.{◌≡◌, IfOk, IfErr, MatchResult};
 ghost use Rattle.dn_records.specs.Records.{statement_bytes, envelope_bytes, IsEnvelope};
-ghost use Rattle.dn_records.specs.declared.statement.Statement.{Statement};
+ghost use Rattle.dn_record_types.specs.declared.statement.Statement.{Statement};
 ghost use Rattle.dn_wire.specs.declared.ids.SignerId.{SignerId};
 ghost use Rattle.dn_seal.specs.Said.{IsSaid, IsUnder, Unseals, IsUnopened};
 

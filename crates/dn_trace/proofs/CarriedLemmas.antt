@@ -4,8 +4,8 @@ use Rattle.std.specs.Prelude.{◌⊎◌}
 use Rattle.std.proofs.lemmas.Option.{same_Some, none-some}
 use Rattle.std.proofs.lemmas.List.Elements.{All-push, All-weaker, Contains-append_left, Contains-push}
 use Rattle.dn_wire.specs.declared.ids.SignerId.{SignerId}
-use Rattle.dn_records.specs.declared.statement.Statement.{Statement}
-use Rattle.dn_records.specs.declared.statement.Statement.TheVariants as kinds
+use Rattle.dn_record_types.specs.declared.statement.Statement.{Statement}
+use Rattle.dn_record_types.specs.declared.statement.Statement.TheVariants as kinds
 use Rattle.dn_seal.specs.Said.{SaidView}
 use Rattle.dn_trace.specs.Trial.{Trial, Says, IsCarried, round_of}
 use Rattle.dn_trace.specs.Evidence.{AreCarried, IsPadIn, HasPadIn}

@@ -7,8 +7,8 @@ use Rattle.std.proofs.lemmas.List.Elements.{All-contains}
 use Rattle.std.proofs.lemmas.Option.{slice_get-get_or, none-some, same_Some}
 use Rattle.dn_bits.specs.Bits.{bytes_of}
 use Rattle.dn_hash.specs.Digests.{server_digest_of}
-use Rattle.dn_records.specs.declared.body.Listed.{Listed}
-use Rattle.dn_records.specs.declared.shown.ShownCipher.{ShownCipher}
+use Rattle.dn_record_types.specs.declared.body.Listed.{Listed}
+use Rattle.dn_record_types.specs.declared.shown.ShownCipher.{ShownCipher}
 use Rattle.dn_layout.specs.Layout.{bits_of}
 use Rattle.dn_cert.specs.Evidence.{shown_bit}
 use Rattle.dn_cert.specs.Trim.{given_to}

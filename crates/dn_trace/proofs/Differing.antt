@@ -4,7 +4,7 @@ use Rattle.std.specs.Prelude.{Contains}
 use Rattle.std.specs.Bool.{beq}
 use Rattle.std.proofs.lemmas.Bool.{false≢true}
 use Rattle.dn_bits.specs.Bits.{bit}
-use Rattle.dn_records.specs.declared.shown.ShownCipher.{ShownCipher}
+use Rattle.dn_record_types.specs.declared.shown.ShownCipher.{ShownCipher}
 use Rattle.dn_cert.specs.Evidence.{shown_bit}
 use Rattle.dn_trace.specs.declared.openings.Opening.{Opening}
 use Rattle.dn_bits.specs.XorAll.{xor_all}

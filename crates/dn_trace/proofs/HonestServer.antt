@@ -10,9 +10,9 @@ use Rattle.dn_bits.specs.Bits.{xor, bit, bytes_of, first_bits, sum_bits}
 use Rattle.dn_bits.proofs.ByteLemmas.{bits_again}
 use Rattle.dn_hash.specs.Digests.{seed_commitment_of, server_digest_of}
 use Rattle.dn_pads.specs.Pads.{keystream_bit, pad_of}
-use Rattle.dn_records.specs.Place.{commit_of}
-use Rattle.dn_records.specs.declared.statement.Statement.{Statement}
-use Rattle.dn_records.specs.declared.statement.Statement.TheVariants as kinds
+use Rattle.dn_record_types.specs.Place.{commit_of}
+use Rattle.dn_record_types.specs.declared.statement.Statement.{Statement}
+use Rattle.dn_record_types.specs.declared.statement.Statement.TheVariants as kinds
 use Rattle.dn_layout.specs.Layout.{bits_of}
 use Rattle.dn_roster.specs.Roster.{commitment_of}
 use Rattle.dn_seal.specs.Dealt.{client, server}

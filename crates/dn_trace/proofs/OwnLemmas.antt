@@ -10,10 +10,10 @@ use Rattle.dn_wire.specs.declared.ids.Round.{Round}
 use Rattle.dn_bits.specs.Bits.{bit, bytes_of, sum_bits, xor_bits, zeros}
 use Rattle.dn_bits.proofs.SumLemmas as sums
 use Rattle.dn_hash.specs.Digests.{server_digest_of}
-use Rattle.dn_records.specs.Place.{reveal_of, commit_of, shown_of, pad_bits_of}
-use Rattle.dn_records.specs.declared.shown.ShownCipher.{ShownCipher}
-use Rattle.dn_records.specs.declared.statement.Statement.{Statement}
-use Rattle.dn_records.specs.declared.statement.Statement.TheVariants as kinds
+use Rattle.dn_record_types.specs.Place.{reveal_of, commit_of, shown_of, pad_bits_of}
+use Rattle.dn_record_types.specs.declared.shown.ShownCipher.{ShownCipher}
+use Rattle.dn_record_types.specs.declared.statement.Statement.{Statement}
+use Rattle.dn_record_types.specs.declared.statement.Statement.TheVariants as kinds
 use Rattle.dn_layout.specs.Layout.{bits_of}
 use Rattle.dn_seal.specs.Dealt.{server}
 use Rattle.dn_seal.specs.Said.{SaidView}

@@ -7,7 +7,7 @@ use Rattle.std.proofs.lemmas.List.FromFn.{length-map-range_with_len, get_or-map-
 use Rattle.dn_wire.specs.declared.ids.Member.{Member}
 use Rattle.dn_wire.specs.declared.ids.Member.TheVariants as members
 use Rattle.dn_bits.specs.Bits.{xor, bit, sum_bits, below}
-use Rattle.dn_records.specs.declared.shown.ShownCipher.{ShownCipher}
+use Rattle.dn_record_types.specs.declared.shown.ShownCipher.{ShownCipher}
 use Rattle.dn_layout.specs.Layout.{bits_of}
 use Rattle.dn_cert.specs.Evidence.{shown_bit}
 use Rattle.dn_cert.specs.Trim.{given_to}

@@ -8,8 +8,8 @@ use Rattle.std.proofs.lemmas.List.Elements.{All-contains}
 use Rattle.dn_wire.specs.declared.ids.ClientId.{ClientId}
 use Rattle.dn_wire.specs.declared.ids.SignerId.TheVariants.{Client}
 use Rattle.dn_wire.specs.declared.ids.Round.{Round}
-use Rattle.dn_records.specs.declared.statement.Statement.{Statement}
-use Rattle.dn_records.specs.declared.statement.Statement.TheVariants as kinds
+use Rattle.dn_record_types.specs.declared.statement.Statement.{Statement}
+use Rattle.dn_record_types.specs.declared.statement.Statement.TheVariants as kinds
 use Rattle.dn_seal.specs.Dealt.{client}
 use Rattle.dn_trace.specs.declared.entries.Submitted.{Submitted}
 use Rattle.dn_trace.specs.Trial.{Trial, Says, Heard, IsEntered, round_of}

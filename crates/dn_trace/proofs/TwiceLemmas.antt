@@ -5,9 +5,9 @@ use Rattle.std.proofs.lemmas.Bool.{eqb-true, eq-eqb, cases_Bool, and_parts}
 use Rattle.std.proofs.lemmas.Option.{same_Some, none-some, cond_some}
 use Rattle.std.proofs.lemmas.List.Elements.{All-contains, Contains-append_left, Contains-append_right, Contains-append_cases}
 use Rattle.dn_wire.specs.declared.ids.Round.{Round}
-use Rattle.dn_records.specs.Place.{Place, receipt_of, inventory_of, commit_of, reveal_of, sign_of, pad_bits_of, shown_of, place_of}
-use Rattle.dn_records.specs.declared.statement.Statement.{Statement}
-use Rattle.dn_records.specs.declared.statement.Statement.TheVariants as kinds
+use Rattle.dn_record_types.specs.Place.{Place, receipt_of, inventory_of, commit_of, reveal_of, sign_of, pad_bits_of, shown_of, place_of}
+use Rattle.dn_record_types.specs.declared.statement.Statement.{Statement}
+use Rattle.dn_record_types.specs.declared.statement.Statement.TheVariants as kinds
 use Rattle.dn_seal.specs.Dealt.{server}
 use Rattle.dn_seal.specs.Said.{SaidView}
 use Rattle.dn_trace.specs.Trial.{Trial, Heard, Says, IsCarried, round_of}

@@ -1,9 +1,9 @@
 -- What an envelope that unseals is opened as.
 use Rattle.std.proofs.Common.{◌≡◌, ℕ, List, Some, MatchResult, Result}
 use Rattle.dn_wire.specs.declared.ids.SignerId.{SignerId}
-use Rattle.dn_records.specs.Records.{envelope_bytes, IsEnvelope}
-use Rattle.dn_records.specs.declared.envelope.Envelope.{Envelope}
-use Rattle.dn_records.specs.declared.statement.Statement.{Statement}
+use Rattle.dn_record_types.specs.Records.{envelope_bytes, IsEnvelope}
+use Rattle.dn_record_types.specs.declared.envelope.Envelope.{Envelope}
+use Rattle.dn_record_types.specs.declared.statement.Statement.{Statement}
 use Rattle.dn_roster.specs.Roster.{RosterView, key_of, digest_of}
 use Rattle.dn_seal.specs.Signer.{envelope}
 use Rattle.dn_seal.specs.Said.{SaidView, Signs, Unseals}

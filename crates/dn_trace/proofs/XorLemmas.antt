@@ -6,7 +6,7 @@ use Rattle.std.proofs.lemmas.List.{map-append, take_more, take_all}
 use Rattle.std.proofs.lemmas.List.Elements.{All-head, All-tail}
 use Rattle.std.proofs.lemmas.List.FromFn.{map-range_with_len_more}
 use Rattle.dn_bits.specs.Bits.{xor, below}
-use Rattle.dn_records.specs.declared.body.Listed.{Listed}
+use Rattle.dn_record_types.specs.declared.body.Listed.{Listed}
 use Rattle.dn_cert.specs.Trim.{given_to}
 use Rattle.dn_bits.specs.XorAll.{xor_all}
 

@@ -1,8 +1,8 @@
 -- Clients that are challenged.
 use Rattle.std.specs.Prelude.{◌≡◌, ◌≢◌, ◌<◌, ℕ, Bool, List, [], map, length, slice_index_or, Contains}
 use Rattle.dn_bits.specs.Bits.{bit}
-use Rattle.dn_records.specs.declared.body.Listed.{Listed}
-use Rattle.dn_records.specs.declared.shown.ShownCipher.{ShownCipher}
+use Rattle.dn_record_types.specs.declared.body.Listed.{Listed}
+use Rattle.dn_record_types.specs.declared.shown.ShownCipher.{ShownCipher}
 use Rattle.dn_cert.specs.Evidence.{shown_bit}
 use Rattle.dn_bits.specs.XorAll.{xor_all}
 use Rattle.dn_trace.specs.Trial.{Trial, servers_of}

@@ -7,11 +7,11 @@ use Rattle.dn_wire.specs.declared.ids.SignerId.TheVariants.{Server}
 use Rattle.dn_bits.specs.Bits.{bytes_of, sum_bits, xor_bits}
 use Rattle.dn_hash.specs.Digests.{seed_commitment_of, server_digest_of}
 use Rattle.dn_pads.specs.Pads.{keystream_bit, pad_of}
-use Rattle.dn_records.specs.Place.{Place, place_of}
-use Rattle.dn_records.specs.declared.inventory.Inventory as inventory
-use Rattle.dn_records.specs.declared.shown.ShownCipher.{ShownCipher}
-use Rattle.dn_records.specs.declared.statement.Statement.{Statement}
-use Rattle.dn_records.specs.declared.statement.Statement.TheVariants as kinds
+use Rattle.dn_record_types.specs.Place.{Place, place_of}
+use Rattle.dn_record_types.specs.declared.inventory.Inventory as inventory
+use Rattle.dn_record_types.specs.declared.shown.ShownCipher.{ShownCipher}
+use Rattle.dn_record_types.specs.declared.statement.Statement.{Statement}
+use Rattle.dn_record_types.specs.declared.statement.Statement.TheVariants as kinds
 use Rattle.dn_layout.specs.Layout.{bits_of}
 use Rattle.dn_roster.specs.Roster.{commitment_of}
 use Rattle.dn_seal.specs.Dealt.{client, server}

@@ -1,7 +1,7 @@
 -- What all servers opened.
 use Rattle.std.specs.Prelude.{◌≡◌, ◌≢◌, ℕ, List, length, map, slice_get, Some, Contains}
 use Rattle.dn_bits.specs.Bits.{bit}
-use Rattle.dn_records.specs.declared.shown.ShownCipher.{ShownCipher}
+use Rattle.dn_record_types.specs.declared.shown.ShownCipher.{ShownCipher}
 use Rattle.dn_cert.specs.Evidence.{shown_bit}
 use Rattle.dn_trace.specs.declared.openings.Opening.{Opening}
 use Rattle.dn_bits.specs.XorAll.{xor_all}

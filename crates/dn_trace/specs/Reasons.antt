@@ -5,13 +5,13 @@ use Rattle.dn_wire.specs.declared.ids.SignerId.{SignerId}
 use Rattle.dn_wire.specs.declared.ids.SignerId.TheVariants as signers
 use Rattle.dn_bits.specs.Bits.{xor, bit, bytes_of, sum_bits}
 use Rattle.dn_hash.specs.Digests.{cipher_digest_of, server_digest_of}
-use Rattle.dn_records.specs.Place.{Place, receipt_of, inventory_of, commit_of, reveal_of, sign_of, pad_bits_of, shown_of, place_of}
-use Rattle.dn_records.specs.declared.body.Listed.{Listed}
-use Rattle.dn_records.specs.declared.inventory.Entry.{Entry}
-use Rattle.dn_records.specs.declared.inventory.Inventory as inventory
-use Rattle.dn_records.specs.declared.shown.ShownCipher.{ShownCipher}
-use Rattle.dn_records.specs.declared.statement.Statement.{Statement}
-use Rattle.dn_records.specs.declared.statement.Statement.TheVariants as kinds
+use Rattle.dn_record_types.specs.Place.{Place, receipt_of, inventory_of, commit_of, reveal_of, sign_of, pad_bits_of, shown_of, place_of}
+use Rattle.dn_record_types.specs.declared.body.Listed.{Listed}
+use Rattle.dn_record_types.specs.declared.inventory.Entry.{Entry}
+use Rattle.dn_record_types.specs.declared.inventory.Inventory as inventory
+use Rattle.dn_record_types.specs.declared.shown.ShownCipher.{ShownCipher}
+use Rattle.dn_record_types.specs.declared.statement.Statement.{Statement}
+use Rattle.dn_record_types.specs.declared.statement.Statement.TheVariants as kinds
 use Rattle.dn_layout.specs.Layout.{bits_of}
 use Rattle.dn_seal.specs.Dealt.{client, server}
 use Rattle.dn_seal.specs.Said.{SaidView}

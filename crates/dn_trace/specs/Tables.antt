@@ -5,9 +5,9 @@ use Rattle.dn_wire.specs.declared.ids.Member.{Member}
 use Rattle.dn_wire.specs.declared.ids.Member.TheVariants as members
 use Rattle.dn_wire.specs.declared.ids.Round.{Round}
 use Rattle.dn_wire.specs.declared.ids.SignerId.TheVariants.{Client}
-use Rattle.dn_records.specs.declared.statement.Statement.{Statement}
-use Rattle.dn_records.specs.declared.statement.Statement.TheVariants as kinds
-use Rattle.dn_records.specs.declared.inventory.Entry.{Entry}
+use Rattle.dn_record_types.specs.declared.statement.Statement.{Statement}
+use Rattle.dn_record_types.specs.declared.statement.Statement.TheVariants as kinds
+use Rattle.dn_record_types.specs.declared.inventory.Entry.{Entry}
 use Rattle.dn_roster.specs.Roster.{RosterView}
 use Rattle.dn_cert.specs.Evidence.{IsGood}
 use Rattle.dn_cert.specs.Signed.{EntryVerifies}

@@ -4,11 +4,11 @@ use Rattle.dn_wire.specs.declared.ids.Round.{Round}
 use Rattle.dn_wire.specs.declared.ids.ServerId.{ServerId}
 use Rattle.dn_wire.specs.declared.ids.SignerId.{SignerId}
 use Rattle.dn_wire.specs.declared.ids.SignerId.TheVariants.{Client}
-use Rattle.dn_records.specs.declared.body.Body.{Body}
-use Rattle.dn_records.specs.declared.inventory.Entry.{Entry}
-use Rattle.dn_records.specs.declared.inventory.Inventory as inventory
-use Rattle.dn_records.specs.declared.statement.Statement.{Statement}
-use Rattle.dn_records.specs.declared.statement.Statement.TheVariants as kinds
+use Rattle.dn_record_types.specs.declared.body.Body.{Body}
+use Rattle.dn_record_types.specs.declared.inventory.Entry.{Entry}
+use Rattle.dn_record_types.specs.declared.inventory.Inventory as inventory
+use Rattle.dn_record_types.specs.declared.statement.Statement.{Statement}
+use Rattle.dn_record_types.specs.declared.statement.Statement.TheVariants as kinds
 use Rattle.dn_roster.specs.Roster.{RosterView}
 use Rattle.dn_seal.specs.Said.{SaidView, IsUnder, Unseals}
 use Rattle.dn_cert.specs.Signed.{EntryVerifies}

@@ -5,8 +5,8 @@ use Rattle.dn_wire.specs.declared.ids.Member.{Member}
 use Rattle.dn_wire.specs.declared.ids.Member.TheVariants as members
 use Rattle.dn_wire.specs.declared.ids.Round.{Round}
 use Rattle.dn_bits.specs.Bits.{bit}
-use Rattle.dn_records.specs.declared.statement.Statement.{Statement}
-use Rattle.dn_records.specs.declared.statement.Statement.TheVariants as kinds
+use Rattle.dn_record_types.specs.declared.statement.Statement.{Statement}
+use Rattle.dn_record_types.specs.declared.statement.Statement.TheVariants as kinds
 use Rattle.dn_seal.specs.Dealt.{client}
 use Rattle.dn_cert.specs.Evidence.{IsGood}
 use Rattle.dn_trace.specs.declared.fault.Fault.{Fault}

@@ -1,7 +1,7 @@
 // The pad bits that rebuttals carry.
 ghost use Rattle.std.specs.Prelude.{◌≡◌, ◌≢◌, ◌↔◌, ℕ, Bool, List, Some, None, IfOk, IfSome, IsTrue};
 ghost use Rattle.dn_wire.specs.declared.ids.SignerId.{SignerId};
-ghost use Rattle.dn_records.specs.declared.statement.Statement.TheVariants.{PadBits};
+ghost use Rattle.dn_record_types.specs.declared.statement.Statement.TheVariants.{PadBits};
 ghost use Rattle.dn_seal.specs.Said.{SaidView, Unseals};
 ghost use Rattle.dn_trace.specs.Evidence.{AreCarried, IsPadIn, HasPadIn};
 

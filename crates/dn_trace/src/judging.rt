@@ -1,7 +1,7 @@
 ghost use Rattle.std.specs.Prelude.{◌≡◌, ◌≢◌, ◌<◌, ◌^◌, ◌↔◌, ◌++◌, ◌&&◌, not, ℕ, false, [], List, None, All, map, length, slice_index_or, IfOk, OnOk, IsTrue};
 ghost use Rattle.dn_bits.specs.Bits.{below};
 ghost use Rattle.dn_layout.specs.Layout.{bits_of};
-ghost use Rattle.dn_records.specs.declared.statement.Statement.{Statement};
+ghost use Rattle.dn_record_types.specs.declared.statement.Statement.{Statement};
 ghost use Rattle.dn_wire.specs.declared.ids.SignerId.{SignerId};
 ghost use Rattle.dn_seal.specs.Said.{IsUnder};
 ghost use Rattle.dn_cert.specs.Evidence.{IsValid};

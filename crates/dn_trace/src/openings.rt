@@ -1,7 +1,7 @@
 // The openings of servers.
 ghost use Rattle.std.specs.Prelude.{◌≡◌, ◌≢◌, ◌↔◌, ◌++◌, List, Bool, map, MatchOption, IsTrue};
 ghost use Rattle.dn_bits.specs.Bits.{xor, bit};
-ghost use Rattle.dn_records.specs.declared.statement.Statement.TheVariants.{PadBits};
+ghost use Rattle.dn_record_types.specs.declared.statement.Statement.TheVariants.{PadBits};
 ghost use Rattle.dn_seal.specs.Dealt.{server};
 ghost use Rattle.dn_cert.specs.Evidence.{shown_bit};
 ghost use Rattle.dn_bits.specs.XorAll.{xor_all};

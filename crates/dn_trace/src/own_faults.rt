@@ -1,6 +1,6 @@
 // The faults of servers that their own statements show.
 ghost use Rattle.std.specs.Prelude.{◌≡◌, ◌<◌, ◌↔◌, List, Bool, ℕ, MatchOption, IfOk, IsTrue};
-ghost use Rattle.dn_records.specs.declared.statement.Statement.TheVariants.{Reveal, Commit};
+ghost use Rattle.dn_record_types.specs.declared.statement.Statement.TheVariants.{Reveal, Commit};
 ghost use Rattle.dn_seal.specs.Dealt.{server};
 ghost use Rattle.dn_trace.specs.Trial.{Says, round_of, servers_of};
 ghost use Rattle.dn_trace.specs.Reasons.{IsTwice, HasFalseEntry, HasFalseCommit, ShowsWrong, HasFalseOutput, IsFirstShown};

@@ -1,6 +1,6 @@
 use Rattle.std.proofs.Common.{◌≡◌, ◌≢◌, List, Bool, Some, None}
 use Rattle.std.proofs.lemmas.Result.{IfOk-weaker}
-use Rattle.dn_records.specs.declared.statement.Statement.TheVariants.{PadBits}
+use Rattle.dn_record_types.specs.declared.statement.Statement.TheVariants.{PadBits}
 use Rattle.dn_wire.specs.declared.ids.SignerId.TheVariants.{Server}
 use Rattle.dn_seal.specs.Said.{Unseals}
 use Rattle.dn_seal.specs.declared.unopened.Unopened.TheVariants as faults

@@ -3,7 +3,7 @@ use borrow.Author.Count.{below_more}
 use Rattle.std.proofs.lemmas.List.{get_or_default}
 use Rattle.dn_wire.specs.declared.ids.SignerId.TheVariants.{Server}
 use Rattle.dn_records.specs.Records.{statement_bytes}
-use Rattle.dn_records.specs.declared.statement.Statement.TheVariants.{Sign}
+use Rattle.dn_record_types.specs.declared.statement.Statement.TheVariants.{Sign}
 use Rattle.dn_lms.specs.Signature.{Verifies}
 use Rattle.dn_roster.specs.Roster.{digest_of, signed_bytes_of}
 use Rattle.dn_cert.specs.Certificate.{IsSignedAt}

@@ -1,7 +1,7 @@
 use Rattle.std.proofs.Common.{◌≡◌, ◌∷◌, ◌∙◌}
 use Rattle.std.proofs.lemmas.Result.{IfOk-weaker}
 use Rattle.dn_records.specs.Records.{statement_bytes}
-use Rattle.dn_records.specs.declared.statement.Statement.TheVariants.{Sign}
+use Rattle.dn_record_types.specs.declared.statement.Statement.TheVariants.{Sign}
 use Rattle.dn_cert.proofs.SpelledBody.{sign_spelled}
 use Rattle.dn_cert.proofs.checking.sign_bytes.Goals as goal
 

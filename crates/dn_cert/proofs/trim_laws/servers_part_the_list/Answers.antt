@@ -1,4 +1,4 @@
-use Rattle.dn_records.specs.declared.body.Listed.{Listed}
+use Rattle.dn_record_types.specs.declared.body.Listed.{Listed}
 use Rattle.dn_cert.proofs.Parts.{parts_whole, parts_rows, parts_have}
 use Rattle.dn_cert.proofs.trim_laws.servers_part_the_list.Goals as goal
 

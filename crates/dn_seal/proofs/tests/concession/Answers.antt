@@ -1,7 +1,7 @@
 use Rattle.std.proofs.Common.{◌≡◌, length, refl, arith}
 use Rattle.dn_records.specs.Fields.{spell_number}
 use Rattle.dn_records.specs.Records.{statement_bytes}
-use Rattle.dn_records.specs.declared.statement.Statement.TheVariants.{Concede}
+use Rattle.dn_record_types.specs.declared.statement.Statement.TheVariants.{Concede}
 use Rattle.dn_seal.proofs.tests.concession.Goals as goal
 
 pub returns : goal.returns

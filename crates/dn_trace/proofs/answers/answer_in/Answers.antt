@@ -2,7 +2,7 @@ use Rattle.std.proofs.Common.{◌≡◌, sym, ◌∙◌, subst, arith}
 use Rattle.std.proofs.lemmas.Grind.{common_steps}
 use Rattle.std.proofs.lemmas.Bool.{false≢true}
 use Rattle.dn_roster.specs.Roster.{RosterView}
-use Rattle.dn_records.specs.declared.statement.Statement.TheVariants as kinds
+use Rattle.dn_record_types.specs.declared.statement.Statement.TheVariants as kinds
 use Rattle.dn_cert.specs.Evidence.{IsGood}
 use Rattle.dn_trace.specs.Trial.{round_of}
 use Rattle.dn_trace.proofs.answers.answer_in.Goals as goal

@@ -1,7 +1,7 @@
 use Rattle.std.proofs.Common.{◌≡◌, ℕ, ◌+◌, ◌<◌, true, false, List, [], length, get_or, set, replicate, take, refl, sym, ap, ◌∙◌, subst, arith, inl, inr}
 use Rattle.std.specs.Prelude.{Contains}
 use Rattle.std.proofs.lemmas.List.{take_all}
-use Rattle.dn_records.specs.declared.body.Listed.{Listed}
+use Rattle.dn_record_types.specs.declared.body.Listed.{Listed}
 use Rattle.dn_trace.specs.Reasons.{IsListed}
 use Rattle.dn_trace.specs.Evidence.{Tells}
 use Rattle.dn_trace.specs.Tables.{clients_of}

@@ -1,6 +1,6 @@
 use Rattle.std.proofs.Common.{◌≡◌, take}
 use Rattle.std.specs.Prelude.{Contains}
-use Rattle.dn_records.specs.declared.body.Listed.{Listed}
+use Rattle.dn_record_types.specs.declared.body.Listed.{Listed}
 use Rattle.dn_trace.specs.Evidence.{Tells}
 use Rattle.dn_trace.specs.Tables.{clients_of}
 use Rattle.dn_trace.proofs.answers.listed.Given as goal

@@ -2,7 +2,7 @@ use Rattle.std.proofs.Common.{◌≡◌, ◌≢◌, List, Bool, Some, None, Ok, 
 use Rattle.std.proofs.lemmas.Bool.{iff_false}
 use Rattle.std.proofs.lemmas.Result.{IfOk-weaker}
 use Rattle.dn_wire.specs.declared.ids.SignerId.{SignerId}
-use Rattle.dn_records.specs.declared.statement.Statement.TheVariants.{PadBits}
+use Rattle.dn_record_types.specs.declared.statement.Statement.TheVariants.{PadBits}
 use Rattle.dn_seal.specs.Said.{SaidView, Unseals}
 use Rattle.dn_seal.specs.declared.unopened.Unopened.TheVariants as faults
 use Rattle.dn_trace.proofs.Unsealed.{opened_as}

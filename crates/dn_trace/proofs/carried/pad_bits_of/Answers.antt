@@ -1,7 +1,7 @@
 use Rattle.std.proofs.Common.{◌≡◌, List, Bool, Some, Option, sym, ◌∙◌, subst}
 use Rattle.std.proofs.lemmas.Result.{IfOk-weaker}
 use Rattle.dn_wire.specs.declared.ids.SignerId.{SignerId}
-use Rattle.dn_records.specs.declared.statement.Statement.TheVariants as kinds
+use Rattle.dn_record_types.specs.declared.statement.Statement.TheVariants as kinds
 use Rattle.dn_seal.specs.Said.{SaidView, Unseals}
 use Rattle.dn_trace.specs.Trial.{round_of}
 use Rattle.dn_trace.specs.Evidence.{HasPadIn}

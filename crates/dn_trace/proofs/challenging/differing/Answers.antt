@@ -1,7 +1,7 @@
 use Rattle.std.proofs.Common.{◌≡◌, ℕ, ◌+◌, Bool, map, take, refl, sym, ap, ◌∙◌, subst, inl, inr}
 use Rattle.std.specs.Prelude.{Contains, ◌⊎◌}
 use Rattle.std.proofs.lemmas.List.{take_all}
-use Rattle.dn_records.specs.declared.shown.ShownCipher.{ShownCipher}
+use Rattle.dn_record_types.specs.declared.shown.ShownCipher.{ShownCipher}
 use Rattle.dn_trace.specs.declared.openings.Opening.{Opening}
 use Rattle.dn_bits.specs.Bits.{bit}
 use Rattle.dn_cert.specs.Evidence.{shown_bit}

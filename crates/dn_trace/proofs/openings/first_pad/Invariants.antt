@@ -1,5 +1,5 @@
 use Rattle.std.proofs.Common.{◌≡◌, ℕ, ◌<◌, Bool, List, get_or}
-use Rattle.dn_records.specs.declared.statement.Statement.TheVariants.{PadBits}
+use Rattle.dn_record_types.specs.declared.statement.Statement.TheVariants.{PadBits}
 use Rattle.dn_seal.specs.Dealt.{server}
 use Rattle.dn_seal.specs.Said.{SaidView}
 use Rattle.dn_trace.proofs.openings.first_pad.Given as goal

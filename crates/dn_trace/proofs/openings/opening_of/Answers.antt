@@ -2,7 +2,7 @@ use Rattle.std.proofs.Common.{◌≡◌, sym, ap, ◌∙◌, subst}
 use Rattle.std.specs.Option.{option_copied}
 use Rattle.dn_trace.specs.Trial.{round_of}
 use Rattle.dn_trace.specs.Reasons.{IsFirstShown, Shows}
-use Rattle.dn_records.specs.declared.statement.Statement.TheVariants as kinds
+use Rattle.dn_record_types.specs.declared.statement.Statement.TheVariants as kinds
 use Rattle.dn_trace.proofs.HeardLemmas.{nothing_shown, found_shown, first_shows}
 use Rattle.dn_trace.proofs.openings.opening_of.Goals as goal
 

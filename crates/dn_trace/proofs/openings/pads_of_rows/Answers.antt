@@ -1,6 +1,6 @@
 use Rattle.std.proofs.Common.{[], sym, ◌∙◌}
 use Rattle.dn_bits.specs.Bits.{xor}
-use Rattle.dn_records.specs.declared.body.Listed.{Listed}
+use Rattle.dn_record_types.specs.declared.body.Listed.{Listed}
 use Rattle.dn_cert.specs.Evidence.{shown_bit}
 use Rattle.dn_trace.proofs.XorLemmas.{xor_all-take_more}
 use Rattle.dn_trace.proofs.openings.pads_of_rows.Goals as goal

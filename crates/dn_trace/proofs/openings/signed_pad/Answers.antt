@@ -1,5 +1,5 @@
 use Rattle.std.proofs.Common.{List, Bool, refl, sym}
-use Rattle.dn_records.specs.declared.statement.Statement.TheVariants.{PadBits}
+use Rattle.dn_record_types.specs.declared.statement.Statement.TheVariants.{PadBits}
 use Rattle.dn_seal.specs.Dealt.{server}
 use Rattle.dn_trace.specs.Trial.{Says}
 use Rattle.dn_trace.specs.Reasons.{Signed}

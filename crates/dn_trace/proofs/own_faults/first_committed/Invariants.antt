@@ -1,5 +1,5 @@
 use Rattle.std.proofs.Common.{◌≡◌, ℕ, ◌<◌, List, get_or}
-use Rattle.dn_records.specs.declared.statement.Statement.TheVariants.{Commit}
+use Rattle.dn_record_types.specs.declared.statement.Statement.TheVariants.{Commit}
 use Rattle.dn_seal.specs.Dealt.{server}
 use Rattle.dn_seal.specs.Said.{SaidView}
 use Rattle.dn_trace.proofs.own_faults.first_committed.Given as goal

@@ -1,7 +1,7 @@
 use Rattle.std.proofs.Common.{◌≡◌, sym, ap, ◌∙◌}
 use Rattle.std.specs.Option.{option_copied}
 use Rattle.dn_trace.specs.Trial.{round_of}
-use Rattle.dn_records.specs.declared.statement.Statement.TheVariants as kinds
+use Rattle.dn_record_types.specs.declared.statement.Statement.TheVariants as kinds
 use Rattle.dn_trace.proofs.HeardLemmas.{found_shown}
 use Rattle.dn_trace.proofs.own_faults.first_string.Goals as goal
 

@@ -4,7 +4,7 @@ use Rattle.std.specs.Cmp.Lexicographic.{pointwise}
 use Rattle.std.proofs.lemmas.Slice.Eq.{bytes_eq-Decides}
 use Rattle.dn_bits.specs.Bits.{bytes_of}
 use Rattle.dn_hash.specs.Digests.{server_digest_of}
-use Rattle.dn_records.specs.declared.statement.Statement.TheVariants as kinds
+use Rattle.dn_record_types.specs.declared.statement.Statement.TheVariants as kinds
 use Rattle.dn_seal.specs.Dealt.{server}
 use Rattle.dn_trace.specs.Trial.{round_of, Says}
 use Rattle.dn_trace.proofs.OwnLemmas.{reveal_given, commit_given, commit_right, says_at}

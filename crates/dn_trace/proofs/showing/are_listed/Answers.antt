@@ -1,8 +1,8 @@
 use Rattle.std.proofs.Common.{◌≡◌, ℕ, ◌<◌, Bool, true, eqb, List, [], length, get_or, sym, ap, ◌∙◌, subst, arith, inl, inr}
 use Rattle.std.proofs.lemmas.Bool.{iff_false, false≢true, not-false, eqb-true, eq-eqb, cases_eq}
 use Rattle.std.proofs.lemmas.List.{get_or_default}
-use Rattle.dn_records.specs.declared.body.Listed.{Listed}
-use Rattle.dn_records.specs.declared.shown.ShownCipher.{ShownCipher}
+use Rattle.dn_record_types.specs.declared.body.Listed.{Listed}
+use Rattle.dn_record_types.specs.declared.shown.ShownCipher.{ShownCipher}
 use Rattle.dn_layout.specs.Layout.{bits_of}
 use Rattle.dn_trace.specs.Trial.{round_of}
 use Rattle.dn_trace.specs.Reasons.{row_of}

@@ -1,6 +1,6 @@
 use Rattle.std.proofs.Common.{◌≡◌, List, length, refl, sym, ap, ◌∙◌, subst}
 use Rattle.std.specs.Prelude.{All, replicate, insert}
-use Rattle.dn_records.specs.declared.body.Body.{Body}
+use Rattle.dn_record_types.specs.declared.body.Body.{Body}
 use Rattle.dn_cert.specs.declared.held.Held.{Held}
 use Rattle.dn_cert.specs.Chain.{IsChain, IsLayoutAfter, CanFollow, IsHoldRefused, with_held}
 use Rattle.dn_cert.proofs.ChainLemmas.{follows_so}

@@ -1,0 +1,5 @@
+pub mod NumberLaws
+pub mod HexLaws
+pub mod FormLaws
+pub mod FieldLaws
+pub mod Loop

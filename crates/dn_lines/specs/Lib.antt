@@ -1,0 +1,4 @@
+pub mod Field
+pub mod Form
+pub mod Fields
+pub mod Exact

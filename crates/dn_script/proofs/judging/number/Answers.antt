@@ -1,0 +1,9 @@
+use Rattle.std.proofs.Common.{refl, sym, ◌∙◌}
+use Rattle.std.specs.Str.Parse.{digits_value}
+use Rattle.dn_script.proofs.JudgeLaws.{numeral_digits, above_high}
+use Rattle.dn_script.proofs.judging.number.Goals as goal
+
+pub returns-in_default : goal.returns-in_default
+returns-in_default c =
+    let numeral = sym c.is_numeral.ensures ∙ c.if-not-is_numeral.false in
+    rw (numeral, above_high c.args.low c.args.high (digits_value 10 c.args.text.now) (c.in_default.ensures (numeral_digits c.args.text.now numeral))) refl
