@@ -4,7 +4,6 @@ pub mod HeardLemmas
 pub mod Somebody
 pub mod HonestClient
 pub mod HonestServer
-pub mod Unsealed
 pub mod Upto
 pub mod CarriedLemmas
 pub mod TwiceLemmas
