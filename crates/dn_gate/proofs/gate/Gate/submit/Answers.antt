@@ -54,9 +54,11 @@ returns-in-Included-clause-included g c = λ place is.
     let m = marked c.args.pass.now c.draw.new.pass c.deposit.new.pass c.mark.new.pass c.args.client.0 c.in-Included.place c.args.value e c.deposit.ensures.deposited (c.mark.ensures.marked c.args.value (ap (λ p. p.held) c.deposit.ensures.deposited)) in
     let same : c.in-Included.place ≡ place = cc in
     let p = c.args.pass.now in
-    let again = unmarked_again p c.mark.new.pass (p.draws ++ included c.in-Included.place c.args.client.0 ∷ []) (p.values ++ (c.args.client.0, c.args.value) ∷ []) c.requires.ready.0 c.requires.ready.1 c.if-not-claim.ensures.empty m in
-    (omega (arith, told.0, same), sym (ap (λ p. p.closing) c.if-not-claim.ensures.claimed) ∙ told.1,
-    subst (λ (n : ℕ). c.mark.new.pass ≡ record p { draws = p.draws ++ included n c.args.client.0 ∷ []; values = p.values ++ (c.args.client.0, c.args.value) ∷ [] }) same again)
+    let again = unmarked_again p c.mark.new.pass (p.draws ++ included c.in-Included.place c.args.client.0 ∷ []) (p.values ++ (c.args.client.0, c.args.value) ∷ []) c.requires.ready.0 c.requires.ready.1 c.if-not-claim.ensures.empty m in (
+      omega (arith, told.0, same),
+      sym (ap (λ p. p.closing) c.if-not-claim.ensures.claimed) ∙ told.1,
+      subst (λ (n : ℕ). c.mark.new.pass ≡ record p { draws = p.draws ++ included n c.args.client.0 ∷ []; values = p.values ++ (c.args.client.0, c.args.value) ∷ [] }) same again,
+    )
 
 pub returns-in-Late-clause-pass : goal.returns-in-Late-clause-pass
 returns-in-Late-clause-pass g c =
