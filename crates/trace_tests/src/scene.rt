@@ -1,7 +1,5 @@
 // A played round with the envelopes that were heard of it.
-ghost use Rattle.std.specs.Prelude.{◌≤◌};
 
-use dn_memory::NoMemory;
 use dn_trace::{Fault, Verdict};
 use dn_wire::{ClientId, Member, ServerId, SignerId};
 use played_rounds::{Jam, Played, group, judged, opened, pad_bits, play, sealed, shown};
