@@ -1,7 +1,6 @@
 -- A round, as it is computed.
-use Rattle.std.proofs.Common.{zero, suc, ◌≡◌, ℕ, ◌+◌, ◌%◌, ◌<◌, ◌≤◌, Bool, true, false, eqb, List, [], ◌∷◌, ◌++◌, map, length, refl, sym, ap, ◌∙◌, ⊎_elim, arith, append-nil, Option, None, length-append, length-drop, take, drop, Some, get_or}
-use borrow.Rule.Slice.PartMut.{put_mid}
-use Rattle.std.proofs.lemmas.List.{take-append-drop, take_more, get_or-map, map-append}
+use Rattle.std.proofs.Common.{zero, suc, ◌≡◌, ℕ, ◌+◌, ◌%◌, ◌<◌, ◌≤◌, Bool, true, false, eqb, List, [], ◌∷◌, ◌++◌, map, length, refl, sym, ap, ◌∙◌, ⊎_elim, arith, append-nil, Option, None, take, Some, get_or}
+use Rattle.std.proofs.lemmas.List.{take_more, get_or-map, map-append}
 use Rattle.std.specs.Prelude.{filter, if◌then◌else◌, unwrap_or}
 use Rattle.std.specs.List.{All, flat_map, range_with_len}
 use Rattle.std.proofs.lemmas.List.Concat.{flat_map-append}

@@ -1,5 +1,5 @@
 -- One plain round: the pads of each pair, the ciphertexts of clients and servers, and the text that tells them.
-use Rattle.std.specs.Prelude.{ℕ, ◌+◌, ◌*◌, ◌%◌, ◌==◌, Bool, List, ◌++◌, map, filter, codes}
+use Rattle.std.specs.Prelude.{ℕ, ◌%◌, ◌==◌, Bool, List, ◌++◌, map, filter, codes}
 use Rattle.std.specs.List.{flat_map}
 use Rattle.std.specs.Fmt.{decimal}
 use Rattle.dn_bits.specs.Bits.{below, xor_bits, sum_bits}

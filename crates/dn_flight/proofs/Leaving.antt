@@ -9,7 +9,7 @@ use mathlib.Core.Logic.{dite}
 use native.Mathlib.Decide.{dec_le}
 use Rattle.dn_wire.specs.declared.ids.Member.{Member}
 use Rattle.dn_nodes.specs.declared.node.Node.{Node}
-use Rattle.dn_flight.specs.Arena.{none, number_of, msg_of, free_node, without_from}
+use Rattle.dn_flight.specs.Arena.{none, member_number, msg_of, free_node, without_from}
 use Rattle.dn_flight.specs.Chains.{has, first_of, last_of, count, IsLinked}
 use Rattle.dn_flight.specs.Flight.{AreFrom, is_from, is_to, next_in, first_id, after_id, all_to}
 use Rattle.dn_flight.specs.Side.{key_of, before_of, after_of, with_before, with_after, first_end, last_end, with_first, with_last}
@@ -106,12 +106,12 @@ module _ {A : Type 0} where
 -- first that it has left.
 pub record IsLeaving (m : Member) (n : ℕ → Node) (x : ℕ → Ends) (free : ℕ) (es : List (ℕ × ℕ)) (next place : ℕ) (v : ℕ → Node) (y : ℕ → Ends) : Type 0 where
   pub whole : IsWhole v y free es next
-  pub near : (p : ℕ) → p < none → IsNear (number_of m) (n p) (v p)
-  pub ends : (q : ℕ) → AreNear (number_of m) q (x q) (y q)
-  pub at : place ≡ first_end From (y (number_of m))
+  pub near : (p : ℕ) → p < none → IsNear (member_number m) (n p) (v p)
+  pub ends : (q : ℕ) → AreNear (member_number m) q (x q) (y q)
+  pub at : place ≡ first_end From (y (member_number m))
 
-pub leaves : (m : Member) (n : ℕ → Node) (x : ℕ → Ends) (free : ℕ) (es : List (ℕ × ℕ)) (next : ℕ) → IsWhole n x free es next → IsLeaving m n x free es next (first_end From (x (number_of m))) n x
-leaves m n x free es next w = record { whole = w; near = λ p low. near_self (number_of m) (n p); ends = λ q. ends_near_self (number_of m) q (x q); at = refl }
+pub leaves : (m : Member) (n : ℕ → Node) (x : ℕ → Ends) (free : ℕ) (es : List (ℕ × ℕ)) (next : ℕ) → IsWhole n x free es next → IsLeaving m n x free es next (first_end From (x (member_number m))) n x
+leaves m n x free es next w = record { whole = w; near = λ p low. near_self (member_number m) (n p); ends = λ q. ends_near_self (member_number m) q (x q); at = refl }
 
 -- entries are at places
 pub are_low : (v : ℕ → Node) (y : ℕ → Ends) (free : ℕ) (es : List (ℕ × ℕ)) (next : ℕ) → IsWhole v y free es next → AreLow es
@@ -128,18 +128,18 @@ pub next_is : (v : ℕ → Node) (y : ℕ → Ends) (free : ℕ) (es : List (ℕ
 next_is v y free es next w b e a is id same =
     let all : msgs_at v es ≡ msgs_at v b ++ msg_of (v e.1) ∷ msgs_at v a = ap (msgs_at v) is ∙ map-append (λ z. msg_of (v z.1)) b (e ∷ a) in
     let its : (v e.1).id ≡ id = w.ids b e a is ∙ sym same in
-    let link : (v e.1).to_after ≡ first_of (number_of (v e.1).to) (cells To v a) = (w.linked To (cells To v b) (e.1, key_of To (v e.1)) (cells To v a) (ap (cells To v) is ∙ map-append (λ z. (z.1, key_of To (v z.1))) b (e ∷ a))).1 in
+    let link : (v e.1).to_after ≡ first_of (member_number (v e.1).to) (cells To v a) = (w.linked To (cells To v b) (e.1, key_of To (v e.1)) (cells To v a) (ap (cells To v) is ∙ map-append (λ z. (z.1, key_of To (v z.1))) b (e ∷ a))).1 in
     let low : AreLow a = λ c z d at. are_low v y free es next w (b ++ e ∷ c) z d (is ∙ ap (λ l. b ++ e ∷ l) at ∙ sym (append_assoc b (e ∷ c) (z ∷ d))) in
     ap (id_at v) link ∙ first_to_member v (v e.1).to a low
     ∙ sym (ap first_id ((λ j. after_id (sym its j) (all_to (v e.1).to (all j))) ∙ after_it 0 (is_to (v e.1).to) (msgs_at v b) (msg_of (v e.1)) (msgs_at v a) next (subst (λ l. AreFrom 0 l next) all w.order)))
 
 module _ (m : Member) (n : ℕ → Node) (x : ℕ → Ends) (free : ℕ) (es : List (ℕ × ℕ)) (next place : ℕ) (v : ℕ → Node) (y : ℕ → Ends) (s : IsLeaving m n x free es next place v y) where
   key : ℕ
-  key = number_of m
+  key = member_number m
 
   module _ (more : place ≢ none) where
-    pub found : FirstAt From v (number_of m) es place
-    found = first_at From v (number_of m) es place (sym (s.whole.firsts From (number_of m)) ∙ sym s.at) more
+    pub found : FirstAt From v (member_number m) es place
+    found = first_at From v (member_number m) es place (sym (s.whole.firsts From (member_number m)) ∙ sym s.at) more
 
     w : IsWhole v y free (found.0 ++ found.1 ∷ found.2) next
     w = subst (λ l. IsWhole v y free l next) found.3 s.whole
@@ -164,54 +164,54 @@ module _ (m : Member) (n : ℕ → Node) (x : ℕ → Ends) (free : ℕ) (es : L
     links = w.linked From (cells From v found.0) (found.1.1, key_of From (v found.1.1)) (cells From v found.2) (map-append (λ e. (e.1, key_of From (v e.1))) found.0 (found.1 ∷ found.2))
 
     before_none : before_of From (v found.1.1) ≡ none
-    before_none = links.0 ∙ ap (λ (k : ℕ). last_of k (cells From v found.0)) found.5 ∙ last_not none (number_of m) (cells From v found.0) found.6
+    before_none = links.0 ∙ ap (λ (k : ℕ). last_of k (cells From v found.0)) found.5 ∙ last_not none (member_number m) (cells From v found.0) found.6
 
     -- the message after it is from the same member
-    after_key : (p : ℕ) → p < none → p ≡ after_of From (v found.1.1) → key_of From (v p) ≡ number_of m
+    after_key : (p : ℕ) → p < none → p ≡ after_of From (v found.1.1) → key_of From (v p) ≡ member_number m
     after_key p h is =
-        let f = first_at From v (number_of m) found.2 p (sym (is ∙ links.1 ∙ ap (λ (k : ℕ). first_of k (cells From v found.2)) found.5)) (λ q. absurd (omega (arith, h, q))) in
-        subst (λ (z : ℕ). key_of From (v z) ≡ number_of m) f.4 f.5
+        let f = first_at From v (member_number m) found.2 p (sym (is ∙ links.1 ∙ ap (λ (k : ℕ). first_of k (cells From v found.2)) found.5)) (λ q. absurd (omega (arith, h, q))) in
+        subst (λ (z : ℕ). key_of From (v z) ≡ member_number m) f.4 f.5
 
-    here : IsNear (number_of m) (n place) (v found.1.1)
-    here = subst (λ (z : ℕ). IsNear (number_of m) (n z) (v found.1.1)) found.4 (s.near found.1.1 low)
+    here : IsNear (member_number m) (n place) (v found.1.1)
+    here = subst (λ (z : ℕ). IsNear (member_number m) (n z) (v found.1.1)) found.4 (s.near found.1.1 low)
 
     module _ (n' : ℕ → Node) (x' : ℕ → Ends)
         (nodes_are : (p : ℕ) → p < none → n' p ≡ cond (p == place) (free_node free) (unlinked To (n place).to_before (n place).to_after p (n p)))
-        (ends_are : (q : ℕ) → x' q ≡ unended To (n place).to_before (n place).to_after (number_of (n place).to) q (x q)) where
+        (ends_are : (q : ℕ) → x' q ≡ unended To (n place).to_before (n place).to_after (member_number (n place).to) q (x q)) where
       to_before : (n place).to_before ≡ before_of To (v found.1.1)
       to_before = ap (λ (z : Node). z.to_before) here.same
 
       to_after : (n place).to_after ≡ after_of To (v found.1.1)
       to_after = ap (λ (z : Node). z.to_after) here.same
 
-      to_key : number_of (n place).to ≡ key_of To (v found.1.1)
-      to_key = ap (λ (z : Node). number_of z.to) here.same
+      to_key : member_number (n place).to ≡ key_of To (v found.1.1)
+      to_key = ap (λ (z : Node). member_number z.to) here.same
 
-      near' : (p : ℕ) → p < none → IsNear (number_of m) (n' p) (v' p)
-      near' p h = subst (λ (z : Node). IsNear (number_of m) z (v' p)) (sym (nodes_are p h ∙ (λ j. cond (p == sym found.4 j) (free_node free) (unlinked To (to_before j) (to_after j) p (n p))))) (by (p == found.1.1) refl)
+      near' : (p : ℕ) → p < none → IsNear (member_number m) (n' p) (v' p)
+      near' p h = subst (λ (z : Node). IsNear (member_number m) z (v' p)) (sym (nodes_are p h ∙ (λ j. cond (p == sym found.4 j) (free_node free) (unlinked To (to_before j) (to_after j) p (n p))))) (by (p == found.1.1) refl)
         where
-          by : (t : Bool) → (p == found.1.1) ≡ t → IsNear (number_of m)
+          by : (t : Bool) → (p == found.1.1) ≡ t → IsNear (member_number m)
               (cond t (free_node free) (unlinked To (before_of To (v found.1.1)) (after_of To (v found.1.1)) p (n p)))
               (cond t (free_node free) (unlinked From (before_of From (v found.1.1)) (after_of From (v found.1.1)) p (unlinked To (before_of To (v found.1.1)) (after_of To (v found.1.1)) p (v p))))
-          by true q = near_self (number_of m) (free_node free)
+          by true q = near_self (member_number m) (free_node free)
           by false q =
-              let to = near_to (number_of m) (before_of To (v found.1.1)) (after_of To (v found.1.1)) p (n p) (v p) (s.near p h) in
-              subst (λ (b : ℕ). IsNear (number_of m) (unlinked To (before_of To (v found.1.1)) (after_of To (v found.1.1)) p (n p)) (unlinked From b (after_of From (v found.1.1)) p (unlinked To (before_of To (v found.1.1)) (after_of To (v found.1.1)) p (v p)))) (sym before_none)
-              (near_from (number_of m) (after_of From (v found.1.1)) p _ (unlinked To (before_of To (v found.1.1)) (after_of To (v found.1.1)) p (v p)) to h (λ is. key_unlinked To From (before_of To (v found.1.1)) (after_of To (v found.1.1)) p (v p) ∙ after_key p h is))
+              let to = near_to (member_number m) (before_of To (v found.1.1)) (after_of To (v found.1.1)) p (n p) (v p) (s.near p h) in
+              subst (λ (b : ℕ). IsNear (member_number m) (unlinked To (before_of To (v found.1.1)) (after_of To (v found.1.1)) p (n p)) (unlinked From b (after_of From (v found.1.1)) p (unlinked To (before_of To (v found.1.1)) (after_of To (v found.1.1)) p (v p)))) (sym before_none)
+              (near_from (member_number m) (after_of From (v found.1.1)) p _ (unlinked To (before_of To (v found.1.1)) (after_of To (v found.1.1)) p (v p)) to h (λ is. key_unlinked To From (before_of To (v found.1.1)) (after_of To (v found.1.1)) p (v p) ∙ after_key p h is))
 
-      ends' : (q : ℕ) → AreNear (number_of m) q (x' q) (y' q)
-      ends' q = subst (λ (z : Ends). AreNear (number_of m) q z (y' q)) (sym (ends_are q ∙ (λ j. unended To (to_before j) (to_after j) (to_key j) q (x q))))
-          (subst (λ (k : ℕ). AreNear (number_of m) q (unended To (before_of To (v found.1.1)) (after_of To (v found.1.1)) (key_of To (v found.1.1)) q (x q)) (unended From (before_of From (v found.1.1)) (after_of From (v found.1.1)) k q (unended To (before_of To (v found.1.1)) (after_of To (v found.1.1)) (key_of To (v found.1.1)) q (y q)))) (sym found.5)
-          (ends_near_from (number_of m) (before_of From (v found.1.1)) (after_of From (v found.1.1)) q _ _ (ends_near_to (number_of m) (before_of To (v found.1.1)) (after_of To (v found.1.1)) (key_of To (v found.1.1)) q (x q) (y q) (s.ends q))))
+      ends' : (q : ℕ) → AreNear (member_number m) q (x' q) (y' q)
+      ends' q = subst (λ (z : Ends). AreNear (member_number m) q z (y' q)) (sym (ends_are q ∙ (λ j. unended To (to_before j) (to_after j) (to_key j) q (x q))))
+          (subst (λ (k : ℕ). AreNear (member_number m) q (unended To (before_of To (v found.1.1)) (after_of To (v found.1.1)) (key_of To (v found.1.1)) q (x q)) (unended From (before_of From (v found.1.1)) (after_of From (v found.1.1)) k q (unended To (before_of To (v found.1.1)) (after_of To (v found.1.1)) (key_of To (v found.1.1)) q (y q)))) (sym found.5)
+          (ends_near_from (member_number m) (before_of From (v found.1.1)) (after_of From (v found.1.1)) q _ _ (ends_near_to (member_number m) (before_of To (v found.1.1)) (after_of To (v found.1.1)) (key_of To (v found.1.1)) q (x q) (y q) (s.ends q))))
 
-      place' : (n place).from_after ≡ first_end From (y' (number_of m))
+      place' : (n place).from_after ≡ first_end From (y' (member_number m))
       place' =
           let b = before_of From (v found.1.1) in
           let a = after_of From (v found.1.1) in
           let k = key_of From (v found.1.1) in
           ap (λ (z : Node). z.from_after) here.same
-          ∙ sym (first_unended From b a k (number_of m) (unended To (before_of To (v found.1.1)) (after_of To (v found.1.1)) (key_of To (v found.1.1)) (number_of m) (y (number_of m)))
-          ∙ (λ j. cond ((eq-eqb b none before_none j) && (eq-eqb (number_of m) k (sym found.5) j)) a (first_end From (unended To (before_of To (v found.1.1)) (after_of To (v found.1.1)) (key_of To (v found.1.1)) (number_of m) (y (number_of m))))))
+          ∙ sym (first_unended From b a k (member_number m) (unended To (before_of To (v found.1.1)) (after_of To (v found.1.1)) (key_of To (v found.1.1)) (member_number m) (y (member_number m)))
+          ∙ (λ j. cond ((eq-eqb b none before_none j) && (eq-eqb (member_number m) k (sym found.5) j)) a (first_end From (unended To (before_of To (v found.1.1)) (after_of To (v found.1.1)) (key_of To (v found.1.1)) (member_number m) (y (member_number m))))))
 
       pub leaves_more : IsLeaving m n' x' place (found.0 ++ found.2) next (n place).from_after v' y'
       leaves_more = record { whole = subst (λ (z : ℕ). IsWhole v' y' z (found.0 ++ found.2) next) found.4 whole'; near = near'; ends = ends'; at = place' }
@@ -229,10 +229,10 @@ module _ (m : Member) (n : ℕ → Node) (x : ℕ → Ends) (free : ℕ) (es : L
     pub after_below : (n place).to_after ≤ none
     after_below = omega (arith, after_low v v y y free next found.0 found.1 found.2 w To, ap (λ (z : Node). z.to_after) here.same)
 
-    pub receiver_end : first_end To (x (number_of (n place).to)) < none
+    pub receiver_end : first_end To (x (member_number (n place).to)) < none
     receiver_end =
-        let k = number_of (n place).to in
-        let same : first_end To (x k) ≡ first_end To (y (key_of To (v found.1.1))) = (s.ends k).to_first ∙ ap (λ (z : Node). first_end To (y (number_of z.to))) here.same in
+        let k = member_number (n place).to in
+        let same : first_end To (x k) ≡ first_end To (y (key_of To (v found.1.1))) = (s.ends k).to_first ∙ ap (λ (z : Node). first_end To (y (member_number z.to))) here.same in
         omega (arith, same, has_end v v y y free next found.0 found.1 found.2 w To)
 
     pub entry_goes : remove_entry (is_at (nat_cmp (n place).id)) es ≡ found.0 ++ found.2
@@ -245,7 +245,7 @@ module _ (m : Member) (n : ℕ → Node) (x : ℕ → Ends) (free : ℕ) (es : L
 
     -- what the messages become
     is_from_it : is_from m (msg_of (v found.1.1)) ≡ true
-    is_from_it = member_test (v found.1.1).from m ∙ eq-eqb (number_of (v found.1.1).from) (number_of m) found.5
+    is_from_it = member_test (v found.1.1).from m ∙ eq-eqb (member_number (v found.1.1).from) (member_number m) found.5
 
     all_now : msgs_at v (found.0 ++ found.1 ∷ found.2) ≡ msgs_at v found.0 ++ msg_of (v found.1.1) ∷ msgs_at v found.2
     all_now = map-append (λ e. msg_of (v e.1)) found.0 (found.1 ∷ found.2)
@@ -260,13 +260,13 @@ module _ (m : Member) (n : ℕ → Node) (x : ℕ → Ends) (free : ℕ) (es : L
     one_less = ap (λ l. count_by (is_from m) (msgs_at v l)) found.3 ∙ ap (count_by (is_from m)) all_now ∙ count_gone (is_from m) (msgs_at v found.0) (msg_of (v found.1.1)) (msgs_at v found.2) is_from_it ∙ ap (λ l. 1 + count_by (is_from m) l) (sym left_then)
 
   module _ (done : place ≡ none) where
-    all_gone : has (number_of m) (cells From v es) ≡ false
-    all_gone = none_with From v (number_of m) es (are_low v y free es next s.whole) (sym (s.whole.firsts From (number_of m)) ∙ sym s.at ∙ done)
+    all_gone : has (member_number m) (cells From v es) ≡ false
+    all_gone = none_with From v (member_number m) es (are_low v y free es next s.whole) (sym (s.whole.firsts From (member_number m)) ∙ sym s.at ∙ done)
 
-    other_key : (b : List (ℕ × ℕ)) (e : ℕ × ℕ) (a : List (ℕ × ℕ)) → es ≡ b ++ e ∷ a → key_of From (v e.1) ≢ number_of m
+    other_key : (b : List (ℕ × ℕ)) (e : ℕ × ℕ) (a : List (ℕ × ℕ)) → es ≡ b ++ e ∷ a → key_of From (v e.1) ≢ member_number m
     other_key b e a is q =
         let at : cells From v es ≡ cells From v b ++ (e.1, key_of From (v e.1)) ∷ cells From v a = ap (cells From v) is ∙ map-append (λ z. (z.1, key_of From (v z.1))) b (e ∷ a) in
-        true_false (sym (has_at (number_of m) (cells From v b) (e.1, key_of From (v e.1)) (cells From v a) q) ∙ sym (ap (has (number_of m)) at) ∙ all_gone)
+        true_false (sym (has_at (member_number m) (cells From v b) (e.1, key_of From (v e.1)) (cells From v a) q) ∙ sym (ap (has (member_number m)) at) ∙ all_gone)
       where
         true_false : true ≡ false → ⊥
         true_false h = cc
@@ -285,7 +285,7 @@ module _ (m : Member) (n : ℕ → Node) (x : ℕ → Ends) (free : ℕ) (es : L
     after_same To p h = ap (after_of To) (s.near p h).same
     after_same From p h = ap (after_of From) (s.near p h).same
 
-    before_same : (side : Side) (p : ℕ) → p < none → (key_of From (v p) ≢ number_of m) → before_of side (n p) ≡ before_of side (v p)
+    before_same : (side : Side) (p : ℕ) → p < none → (key_of From (v p) ≢ member_number m) → before_of side (n p) ≡ before_of side (v p)
     before_same To p h ne = ap (before_of To) (s.near p h).same
     before_same From p h ne = (s.near p h).before ne
 
@@ -310,32 +310,32 @@ module _ (m : Member) (n : ℕ → Node) (x : ℕ → Ends) (free : ℕ) (es : L
         (linked_same (λ p. before_of side (v p)) (λ p. after_of side (v p)) (λ p. before_of side (n p)) (λ p. after_of side (n p)) (cells side v es) (λ p h.
         let f = entry_at side p es h in
         let h' : p < none = subst (λ (z : ℕ). z < none) f.4 (lows f.0 f.1 f.2 f.3) in
-        let ne : key_of From (v p) ≢ number_of m = subst (λ (z : ℕ). key_of From (v z) ≢ number_of m) f.4 (other_key f.0 f.1 f.2 f.3) in
+        let ne : key_of From (v p) ≢ member_number m = subst (λ (z : ℕ). key_of From (v z) ≢ member_number m) f.4 (other_key f.0 f.1 f.2 f.3) in
         (before_same side p h' ne, after_same side p h')) (s.whole.linked side))
 
     abbrev now : ℕ → Ends
-    now q = cond (q == number_of m) (without_from (x q)) (x q)
+    now q = cond (q == member_number m) (without_from (x q)) (x q)
 
     firsts_now : (side : Side) (k : ℕ) → first_end side (now k) ≡ first_of k (cells side n es)
-    firsts_now side k = by side (k == number_of m) refl ∙ ap (first_of k) (sym (cells_are side))
+    firsts_now side k = by side (k == member_number m) refl ∙ ap (first_of k) (sym (cells_are side))
       where
-        by : (side : Side) (t : Bool) → (k == number_of m) ≡ t → first_end side (cond (k == number_of m) (without_from (x k)) (x k)) ≡ first_of k (cells side v es)
+        by : (side : Side) (t : Bool) → (k == member_number m) ≡ t → first_end side (cond (k == member_number m) (without_from (x k)) (x k)) ≡ first_of k (cells side v es)
         by To true q = ap (λ (u : Bool). first_end To (cond u (without_from (x k)) (x k))) q ∙ (s.ends k).to_first ∙ s.whole.firsts To k
         by To false q = ap (λ (u : Bool). first_end To (cond u (without_from (x k)) (x k))) q ∙ (s.ends k).to_first ∙ s.whole.firsts To k
-        by From true q = ap (λ (u : Bool). first_end From (cond u (without_from (x k)) (x k))) q ∙ sym done ∙ s.at ∙ s.whole.firsts From (number_of m) ∙ ap (λ (z : ℕ). first_of z (cells From v es)) (sym (eqb-true k (number_of m) q))
-        by From false q = ap (λ (u : Bool). first_end From (cond u (without_from (x k)) (x k))) q ∙ (s.ends k).from_first (λ e. true_false (sym (eq-eqb k (number_of m) e) ∙ q)) ∙ s.whole.firsts From k
+        by From true q = ap (λ (u : Bool). first_end From (cond u (without_from (x k)) (x k))) q ∙ sym done ∙ s.at ∙ s.whole.firsts From (member_number m) ∙ ap (λ (z : ℕ). first_of z (cells From v es)) (sym (eqb-true k (member_number m) q))
+        by From false q = ap (λ (u : Bool). first_end From (cond u (without_from (x k)) (x k))) q ∙ (s.ends k).from_first (λ e. true_false (sym (eq-eqb k (member_number m) e) ∙ q)) ∙ s.whole.firsts From k
           where
             true_false : true ≡ false → ⊥
             true_false h = cc
 
     lasts_now : (side : Side) (k : ℕ) → last_end side (now k) ≡ last_of k (cells side n es)
-    lasts_now side k = by side (k == number_of m) refl ∙ ap (last_of k) (sym (cells_are side))
+    lasts_now side k = by side (k == member_number m) refl ∙ ap (last_of k) (sym (cells_are side))
       where
-        by : (side : Side) (t : Bool) → (k == number_of m) ≡ t → last_end side (cond (k == number_of m) (without_from (x k)) (x k)) ≡ last_of k (cells side v es)
+        by : (side : Side) (t : Bool) → (k == member_number m) ≡ t → last_end side (cond (k == member_number m) (without_from (x k)) (x k)) ≡ last_of k (cells side v es)
         by To true q = ap (λ (u : Bool). last_end To (cond u (without_from (x k)) (x k))) q ∙ (s.ends k).to_last ∙ s.whole.lasts To k
         by To false q = ap (λ (u : Bool). last_end To (cond u (without_from (x k)) (x k))) q ∙ (s.ends k).to_last ∙ s.whole.lasts To k
-        by From true q = ap (λ (u : Bool). last_end From (cond u (without_from (x k)) (x k))) q ∙ sym (last_not none k (cells From v es) (ap (λ (z : ℕ). has z (cells From v es)) (eqb-true k (number_of m) q) ∙ all_gone))
-        by From false q = ap (λ (u : Bool). last_end From (cond u (without_from (x k)) (x k))) q ∙ (s.ends k).from_last (λ e. true_false (sym (eq-eqb k (number_of m) e) ∙ q)) ∙ s.whole.lasts From k
+        by From true q = ap (λ (u : Bool). last_end From (cond u (without_from (x k)) (x k))) q ∙ sym (last_not none k (cells From v es) (ap (λ (z : ℕ). has z (cells From v es)) (eqb-true k (member_number m) q) ∙ all_gone))
+        by From false q = ap (λ (u : Bool). last_end From (cond u (without_from (x k)) (x k))) q ∙ (s.ends k).from_last (λ e. true_false (sym (eq-eqb k (member_number m) e) ∙ q)) ∙ s.whole.lasts From k
           where
             true_false : true ≡ false → ⊥
             true_false h = cc
@@ -356,7 +356,7 @@ module _ (m : Member) (n : ℕ → Node) (x : ℕ → Ends) (free : ℕ) (es : L
     }
 
     -- the arena with the leaving member's ends taken away
-    pub whole_left : (x' : ℕ → Ends) → ((q : ℕ) → x' q ≡ cond (q == number_of m) (without_from (x q)) (x q)) → IsWhole n x' free es next
+    pub whole_left : (x' : ℕ → Ends) → ((q : ℕ) → x' q ≡ cond (q == member_number m) (without_from (x q)) (x q)) → IsWhole n x' free es next
     whole_left x' are = record {
       ids = whole_now.ids;
       order = whole_now.order;
@@ -367,12 +367,12 @@ module _ (m : Member) (n : ℕ → Node) (x : ℕ → Ends) (free : ℕ) (es : L
     }
 
     -- no message is from the member
-    none_from : (l : List (ℕ × ℕ)) → ((b : List (ℕ × ℕ)) (e : ℕ × ℕ) (a : List (ℕ × ℕ)) → l ≡ b ++ e ∷ a → key_of From (v e.1) ≢ number_of m)
+    none_from : (l : List (ℕ × ℕ)) → ((b : List (ℕ × ℕ)) (e : ℕ × ℕ) (a : List (ℕ × ℕ)) → l ≡ b ++ e ∷ a → key_of From (v e.1) ≢ member_number m)
         → (filter (λ z. not (is_from m z)) (msgs_at v l) ≡ msgs_at v l) × (count_by (is_from m) (msgs_at v l) ≡ 0)
     none_from [] h = (refl, refl)
     none_from (z ∷ l) h =
         let more = none_from l (λ b e a is. h (z ∷ b) e a (ap (λ r. z ∷ r) is)) in
-        let not_it : is_from m (msg_of (v z.1)) ≡ false = member_test (v z.1).from m ∙ ne_eqb (number_of (v z.1).from) (number_of m) (h [] z l refl) in (
+        let not_it : is_from m (msg_of (v z.1)) ≡ false = member_test (v z.1).from m ∙ ne_eqb (member_number (v z.1).from) (member_number m) (h [] z l refl) in (
           ap (λ (t : Bool). cond (not t) (msg_of (v z.1) ∷ filter (λ u. not (is_from m u)) (msgs_at v l)) (filter (λ u. not (is_from m u)) (msgs_at v l))) not_it ∙ ap (λ r. msg_of (v z.1) ∷ r) more.0,
           omega (arith, count_first (is_from m) (msg_of (v z.1)) (msgs_at v l), ap (λ (t : Bool). cond {A = ℕ} t 1 0) not_it, more.1),
         )

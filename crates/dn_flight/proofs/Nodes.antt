@@ -1,7 +1,7 @@
 -- What links change of nodes and of ends.
 use Rattle.std.proofs.Common.{◌≡◌, ℕ, ◌==◌, ◌&&◌, cond, Bool, true, false, refl, ap}
 use Rattle.dn_nodes.specs.declared.node.Node.{Node}
-use Rattle.dn_flight.specs.Arena.{none, msg_of, number_of}
+use Rattle.dn_flight.specs.Arena.{none, msg_of, member_number}
 use Rattle.dn_flight.specs.Side.{key_of, before_of, after_of, with_before, with_after, first_end, last_end, with_first, with_last}
 use Rattle.dn_flight.specs.Whole.{unlinked, unended, appended, end_moved}
 use Rattle.dn_flight.specs.declared.heads.Ends.{Ends}
@@ -198,8 +198,8 @@ after_appended_other s b place p n = by s (p == b)
     by From false = refl
 
 pub key_appended : (s side : Side) (b place p : ℕ) (n : Node) → key_of side (appended s b place p n) ≡ key_of side n
-key_appended s To b place p n = ap (λ (m : Msg). number_of m.to) (msg_appended s b place p n)
-key_appended s From b place p n = ap (λ (m : Msg). number_of m.from) (msg_appended s b place p n)
+key_appended s To b place p n = ap (λ (m : Msg). member_number m.to) (msg_appended s b place p n)
+key_appended s From b place p n = ap (λ (m : Msg). member_number m.from) (msg_appended s b place p n)
 
 pub first_moved : (s : Side) (b k place q : ℕ) (e : Ends) → first_end s (end_moved s b k place q e) ≡ cond ((b == none) && (q == k)) place (first_end s e)
 first_moved s b k place q e = by s (q == k) ((b == none) && (q == k))

@@ -5,7 +5,7 @@ use mathlib.Core.Logic.{dite}
 use native.Mathlib.Decide.{ℕ_discrete, dec_le}
 use Rattle.dn_wire.specs.declared.ids.Member.{Member}
 use Rattle.dn_nodes.specs.declared.node.Node.{Node}
-use Rattle.dn_flight.specs.Arena.{none, node_at, msg_of, number_of, free_node}
+use Rattle.dn_flight.specs.Arena.{none, node_at, msg_of, member_number, free_node}
 use Rattle.dn_flight.specs.Chains.{first_of, last_of, count, IsLinked, IsApart}
 use Rattle.dn_flight.specs.Flight.{AreFrom}
 use Rattle.dn_flight.specs.Side.{key_of, before_of, after_of, first_end, last_end}
@@ -34,16 +34,16 @@ module _ (nodes nodes' : ℕ → Node) (heads heads' : ℕ → Ends) (place next
 
   -- the new node
   abbrev it : Node
-  it = record { id = next; from = from; to = to; payload = payload; to_before = last_at To (number_of to); to_after = none; from_before = last_at From (number_of from); from_after = none }
+  it = record { id = next; from = from; to = to; payload = payload; to_before = last_at To (member_number to); to_after = none; from_before = last_at From (member_number from); from_after = none }
 
   abbrev key : Side → ℕ
   key side = key_of side it
 
   abbrev step : ℕ → Node → Node
-  step p x = appended From (last_at From (number_of from)) place p (appended To (last_at To (number_of to)) place p (cond (p == place) it x))
+  step p x = appended From (last_at From (member_number from)) place p (appended To (last_at To (member_number to)) place p (cond (p == place) it x))
 
   abbrev ends_step : ℕ → Ends → Ends
-  ends_step q x = end_moved From (last_at From (number_of from)) (number_of from) place q (end_moved To (last_at To (number_of to)) (number_of to) place q x)
+  ends_step q x = end_moved From (last_at From (member_number from)) (member_number from) place q (end_moved To (last_at To (member_number to)) (member_number to) place q x)
 
   abbrev es' : List (ℕ × ℕ)
   es' = es ++ (next, place) ∷ []
@@ -94,26 +94,26 @@ module _ (nodes nodes' : ℕ → Node) (heads heads' : ℕ → Ends) (place next
     base_it x = ap (λ (t : Bool). cond t it x) (eq-eqb place place refl)
 
     msg_is : (p : ℕ) (x : Node) → msg_of (step p x) ≡ msg_of (cond (p == place) it x)
-    msg_is p x = msg_appended From (last_at From (number_of from)) place p (appended To (last_at To (number_of to)) place p (cond (p == place) it x)) ∙ msg_appended To (last_at To (number_of to)) place p (cond (p == place) it x)
+    msg_is p x = msg_appended From (last_at From (member_number from)) place p (appended To (last_at To (member_number to)) place p (cond (p == place) it x)) ∙ msg_appended To (last_at To (member_number to)) place p (cond (p == place) it x)
 
     key_is : (side : Side) (p : ℕ) (x : Node) → key_of side (step p x) ≡ key_of side (cond (p == place) it x)
-    key_is side p x = key_appended From side (last_at From (number_of from)) place p (appended To (last_at To (number_of to)) place p (cond (p == place) it x)) ∙ key_appended To side (last_at To (number_of to)) place p (cond (p == place) it x)
+    key_is side p x = key_appended From side (last_at From (member_number from)) place p (appended To (last_at To (member_number to)) place p (cond (p == place) it x)) ∙ key_appended To side (last_at To (member_number to)) place p (cond (p == place) it x)
 
     before_is : (side : Side) (p : ℕ) (x : Node) → before_of side (step p x) ≡ before_of side (cond (p == place) it x)
-    before_is To p x = to_before_appended From (last_at From (number_of from)) place p (appended To (last_at To (number_of to)) place p (cond (p == place) it x)) ∙ to_before_appended To (last_at To (number_of to)) place p (cond (p == place) it x)
-    before_is From p x = from_before_appended From (last_at From (number_of from)) place p (appended To (last_at To (number_of to)) place p (cond (p == place) it x)) ∙ from_before_appended To (last_at To (number_of to)) place p (cond (p == place) it x)
+    before_is To p x = to_before_appended From (last_at From (member_number from)) place p (appended To (last_at To (member_number to)) place p (cond (p == place) it x)) ∙ to_before_appended To (last_at To (member_number to)) place p (cond (p == place) it x)
+    before_is From p x = from_before_appended From (last_at From (member_number from)) place p (appended To (last_at To (member_number to)) place p (cond (p == place) it x)) ∙ from_before_appended To (last_at To (member_number to)) place p (cond (p == place) it x)
 
     after_is : (side : Side) (p : ℕ) (x : Node) → after_of side (step p x) ≡ cond (p == last_at side (key side)) place (after_of side (cond (p == place) it x))
-    after_is To p x = after_appended_other From (last_at From (number_of from)) place p (appended To (last_at To (number_of to)) place p (cond (p == place) it x)) ∙ after_appended To (last_at To (number_of to)) place p (cond (p == place) it x)
-    after_is From p x = after_appended From (last_at From (number_of from)) place p (appended To (last_at To (number_of to)) place p (cond (p == place) it x)) ∙ ap (λ (k : ℕ). cond (p == last_at From (number_of from)) place k) (after_appended_other To (last_at To (number_of to)) place p (cond (p == place) it x))
+    after_is To p x = after_appended_other From (last_at From (member_number from)) place p (appended To (last_at To (member_number to)) place p (cond (p == place) it x)) ∙ after_appended To (last_at To (member_number to)) place p (cond (p == place) it x)
+    after_is From p x = after_appended From (last_at From (member_number from)) place p (appended To (last_at To (member_number to)) place p (cond (p == place) it x)) ∙ ap (λ (k : ℕ). cond (p == last_at From (member_number from)) place k) (after_appended_other To (last_at To (member_number to)) place p (cond (p == place) it x))
 
     first_is : (side : Side) (q : ℕ) (x : Ends) → first_end side (ends_step q x) ≡ cond ((last_at side (key side) == none) && (q == key side)) place (first_end side x)
-    first_is To q x = first_moved_other From (last_at From (number_of from)) (number_of from) place q (end_moved To (last_at To (number_of to)) (number_of to) place q x) ∙ first_moved To (last_at To (number_of to)) (number_of to) place q x
-    first_is From q x = first_moved From (last_at From (number_of from)) (number_of from) place q (end_moved To (last_at To (number_of to)) (number_of to) place q x) ∙ ap (λ (k : ℕ). cond ((last_at From (number_of from) == none) && (q == number_of from)) place k) (first_moved_other To (last_at To (number_of to)) (number_of to) place q x)
+    first_is To q x = first_moved_other From (last_at From (member_number from)) (member_number from) place q (end_moved To (last_at To (member_number to)) (member_number to) place q x) ∙ first_moved To (last_at To (member_number to)) (member_number to) place q x
+    first_is From q x = first_moved From (last_at From (member_number from)) (member_number from) place q (end_moved To (last_at To (member_number to)) (member_number to) place q x) ∙ ap (λ (k : ℕ). cond ((last_at From (member_number from) == none) && (q == member_number from)) place k) (first_moved_other To (last_at To (member_number to)) (member_number to) place q x)
 
     last_is : (side : Side) (q : ℕ) (x : Ends) → last_end side (ends_step q x) ≡ cond (q == key side) place (last_end side x)
-    last_is To q x = last_moved_other From (last_at From (number_of from)) (number_of from) place q (end_moved To (last_at To (number_of to)) (number_of to) place q x) ∙ last_moved To (last_at To (number_of to)) (number_of to) place q x
-    last_is From q x = last_moved From (last_at From (number_of from)) (number_of from) place q (end_moved To (last_at To (number_of to)) (number_of to) place q x) ∙ ap (λ (k : ℕ). cond (q == number_of from) place k) (last_moved_other To (last_at To (number_of to)) (number_of to) place q x)
+    last_is To q x = last_moved_other From (last_at From (member_number from)) (member_number from) place q (end_moved To (last_at To (member_number to)) (member_number to) place q x) ∙ last_moved To (last_at To (member_number to)) (member_number to) place q x
+    last_is From q x = last_moved From (last_at From (member_number from)) (member_number from) place q (end_moved To (last_at To (member_number to)) (member_number to) place q x) ∙ ap (λ (k : ℕ). cond (q == member_number from) place k) (last_moved_other To (last_at To (member_number to)) (member_number to) place q x)
 
     msg_new : msg_of (nodes' place) ≡ msg_of it
     msg_new = ap msg_of (nodes_are place low) ∙ msg_is place (nodes place) ∙ ap msg_of (base_it (nodes place))
@@ -135,8 +135,8 @@ module _ (nodes nodes' : ℕ → Node) (heads heads' : ℕ → Ends) (place next
     cells_put side = map-append (λ x. (x.1, key_of side (nodes' x.1))) es ((next, place) ∷ []) ∙ (λ j. map_same (λ x. (x.1, key_of side (nodes' x.1))) (λ x. (x.1, key_of side (nodes x.1))) es (λ b x a is. let far = far_at b x a is in (λ i. (x.1, key_same side x.1 far.0 far.1 i))) j ++ (place, key_new side j) ∷ [])
 
     before_it : (side : Side) → before_of side it ≡ last_of (key side) (cells side nodes es)
-    before_it To = w.lasts To (number_of to)
-    before_it From = w.lasts From (number_of from)
+    before_it To = w.lasts To (member_number to)
+    before_it From = w.lasts From (member_number from)
 
     after_it : (side : Side) → after_of side it ≡ none
     after_it To = refl
@@ -207,11 +207,11 @@ module _ (nodes nodes' : ℕ → Node) (heads heads' : ℕ → Ends) (place next
             let most = w.places.2 f in
             let low_f : f < none = dite (dec_le none f) (λ le. absurd (omega (arith, h, most, free_is.1 f, ap (λ (t : Bool). cond {A = ℕ} t 1 0) (le-ltb f none le)))) (λ gt. omega arith) in
             let not_it : f ≢ place = λ q. absurd (omega (arith, h, most, free_is.1 f, one_most (nat_lt f none), ap (λ (t : Bool). cond {A = ℕ} t 1 0) (eq-eqb place f (sym q)))) in
-            let not_last : f ≢ last_at To (number_of to) = λ q. ⊎_elim
-            (λ z. absurd (omega (arith, low_f, q, w.lasts To (number_of to), z)))
-            (λ z. absurd (omega (arith, h, most, free_is.1 f, one_most (nat_lt f none), ap (λ (k : ℕ). count k (cells To nodes es)) (q ∙ w.lasts To (number_of to)), z)))
-            (last_is_place (number_of to) (cells To nodes es)) in
-            ap (after_of To) (nodes_are f low_f) ∙ after_is To f (nodes f) ∙ ap (λ (t : Bool). cond t place (after_of To (cond (f == place) it (nodes f)))) (eqb f (last_at To (number_of to)) not_last) ∙ ap (after_of To) (base f (nodes f) not_it)
+            let not_last : f ≢ last_at To (member_number to) = λ q. ⊎_elim
+            (λ z. absurd (omega (arith, low_f, q, w.lasts To (member_number to), z)))
+            (λ z. absurd (omega (arith, h, most, free_is.1 f, one_most (nat_lt f none), ap (λ (k : ℕ). count k (cells To nodes es)) (q ∙ w.lasts To (member_number to)), z)))
+            (last_is_place (member_number to) (cells To nodes es)) in
+            ap (after_of To) (nodes_are f low_f) ∙ after_is To f (nodes f) ∙ ap (λ (t : Bool). cond t place (after_of To (cond (f == place) it (nodes f)))) (eqb f (last_at To (member_number to)) not_last) ∙ ap (after_of To) (base f (nodes f) not_it)
 
     -- the flight with the message
     pub whole_put : IsWhole nodes' heads' (nodes place).to_after es' (next + 1)

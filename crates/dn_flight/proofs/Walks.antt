@@ -11,7 +11,7 @@ use Rattle.std.specs.declared.cmp.Ordering.TheVariants.{Less, Equal, Greater}
 use Rattle.std.specs.declared.ops.Bound.TheVariants.{Excluded, Unbounded}
 use Rattle.dn_wire.specs.declared.ids.Member.{Member}
 use Rattle.dn_nodes.specs.declared.node.Node.{Node}
-use Rattle.dn_flight.specs.Arena.{none, number_of, msg_of}
+use Rattle.dn_flight.specs.Arena.{none, member_number, msg_of}
 use Rattle.dn_flight.specs.Chains.{has, first_of}
 use Rattle.dn_flight.specs.Flight.{AreFrom, first_id, after_id, all_to}
 use Rattle.dn_flight.specs.Side.{key_of}
@@ -59,14 +59,14 @@ pub id_there : (nodes : ℕ → Node) (p : ℕ) → p < none → id_at nodes p �
 id_there nodes p low = ap (λ (t : Bool). cond t None (Some (nodes p).id)) (ne_eqb p none (λ q. absurd (omega (arith, q, low))))
 
 -- the first message to a member is at the first place of its list
-pub first_to_member : (nodes : ℕ → Node) (m : Member) (es : List (ℕ × ℕ)) → AreLow es → id_at nodes (first_of (number_of m) (cells To nodes es)) ≡ first_id (all_to m (msgs_at nodes es))
+pub first_to_member : (nodes : ℕ → Node) (m : Member) (es : List (ℕ × ℕ)) → AreLow es → id_at nodes (first_of (member_number m) (cells To nodes es)) ≡ first_id (all_to m (msgs_at nodes es))
 first_to_member nodes m [] low = refl
 first_to_member nodes m (y ∷ es) low =
-    by (number_of (nodes y.1).to == number_of m) (first_to_member nodes m es (λ b e a is. low (y ∷ b) e a (ap (λ l. y ∷ l) is)))
+    by (member_number (nodes y.1).to == member_number m) (first_to_member nodes m es (λ b e a is. low (y ∷ b) e a (ap (λ l. y ∷ l) is)))
     ∙ ap (λ (t : Bool). first_id (cond t (msg_of (nodes y.1) ∷ all_to m (msgs_at nodes es)) (all_to m (msgs_at nodes es)))) (sym (member_test (nodes y.1).to m))
   where
-    by : (t : Bool) → id_at nodes (first_of (number_of m) (cells To nodes es)) ≡ first_id (all_to m (msgs_at nodes es))
-        → id_at nodes (cond t y.1 (first_of (number_of m) (cells To nodes es))) ≡ first_id (cond t (msg_of (nodes y.1) ∷ all_to m (msgs_at nodes es)) (all_to m (msgs_at nodes es)))
+    by : (t : Bool) → id_at nodes (first_of (member_number m) (cells To nodes es)) ≡ first_id (all_to m (msgs_at nodes es))
+        → id_at nodes (cond t y.1 (first_of (member_number m) (cells To nodes es))) ≡ first_id (cond t (msg_of (nodes y.1) ∷ all_to m (msgs_at nodes es)) (all_to m (msgs_at nodes es)))
     by true more = id_there nodes y.1 (low [] y es refl)
     by false more = more
 

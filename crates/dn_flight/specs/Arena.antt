@@ -13,9 +13,9 @@ abbrev pub none : ℕ
 none = 65536
 
 -- members by number
-abbrev pub number_of : Member → ℕ
-number_of (Client c) = 2 * c.0
-number_of (Server s) = 2 * s.0 + 1
+abbrev pub member_number : Member → ℕ
+member_number (Client c) = 2 * c.0
+member_number (Server s) = 2 * s.0 + 1
 
 abbrev pub no_ends : Ends
 no_ends = record { to_first = none; to_last = none; from_first = none; from_last = none }

@@ -1,15 +1,15 @@
 -- The two lists that a node stands in: its receiver's and its sender's.
 use Rattle.std.specs.Prelude.{ℕ}
 use Rattle.dn_nodes.specs.declared.node.Node.{Node}
-use Rattle.dn_flight.specs.Arena.{number_of}
+use Rattle.dn_flight.specs.Arena.{member_number}
 use Rattle.dn_flight.specs.declared.heads.Ends.{Ends}
 use Rattle.dn_flight.specs.declared.side.Side.{Side}
 use Rattle.dn_flight.specs.declared.side.Side.TheVariants.{To, From}
 
 -- whose list it is
 abbrev pub key_of : Side → Node → ℕ
-key_of To n = number_of n.to
-key_of From n = number_of n.from
+key_of To n = member_number n.to
+key_of From n = member_number n.from
 
 abbrev pub before_of : Side → Node → ℕ
 before_of To n = n.to_before

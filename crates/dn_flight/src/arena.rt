@@ -1,10 +1,10 @@
 ghost use Rattle.std.specs.Prelude.{◌≡◌, ◌==◌, ◌<◌, ◌≤◌, ◌+◌, ℕ, List, [], ◌∷◌, ◌++◌, cond, length, IfOk, OnOk};
-ghost use Rattle.dn_flight.specs.Arena.{none, node_at, ends_at, free_node, msg_of, number_of, IsKnown};
+ghost use Rattle.dn_flight.specs.Arena.{none, node_at, ends_at, free_node, msg_of, member_number, IsKnown};
 ghost use Rattle.dn_flight.specs.Whole.{IsKept, msgs_in, id_at, unlinked, unended};
 ghost use Rattle.dn_flight.specs.Side.{key_of, before_of, after_of};
 ghost use Rattle.dn_flight.specs.declared.side.Side.TheVariants.{To, From};
 
-use crate::heads::{Heads, number_of};
+use crate::heads::{Heads, member_number};
 use crate::links::Links;
 use crate::msg::Msg;
 use crate::side::Side;
@@ -88,8 +88,8 @@ impl Arena {
             → IsKept self.new (b ++ a) next × (msgs_in self.new (b ++ a) ≡ msgs_in self.old (b ++ a)) }
     {
         let node = self.links.nodes.get(place, steps);
-        let to = number_of(node.to);
-        let from = number_of(node.from);
+        let to = member_number(node.to);
+        let from = member_number(node.from);
         self.links
             .unlink(Side::To, to, node.to_before, node.to_after, steps);
         self.links
@@ -102,16 +102,16 @@ impl Arena {
     /// as it is.
     pub(crate) fn detach<L: Ledger>(&mut self, place: u32, steps: &mut Steps<L>) -> Node
         requires place { (place < none) × (length self.old.links.nodes ≡ none) × (self.old.free ≤ none) }
-        requires near { let node = node_at self.old.links.nodes place in (node.to_before ≤ none) × (node.to_after ≤ none) × IsKnown self.old.links.heads.held (number_of node.to) }
+        requires near { let node = node_at self.old.links.nodes place in (node.to_before ≤ none) × (node.to_after ≤ none) × IsKnown self.old.links.heads.held (member_number node.to) }
         ensures node { result ≡ node_at self.old.links.nodes place }
         ensures long { length self.new.links.nodes ≡ length self.old.links.nodes }
         ensures nodes { (p : ℕ) → p < none → node_at self.new.links.nodes p ≡ cond (p == place) (free_node self.old.free) (unlinked To result.to_before result.to_after p (node_at self.old.links.nodes p)) }
-        ensures ends { (q : ℕ) → ends_at self.new.links.heads.held q ≡ unended To result.to_before result.to_after (number_of result.to) q (ends_at self.old.links.heads.held q) }
+        ensures ends { (q : ℕ) → ends_at self.new.links.heads.held q ≡ unended To result.to_before result.to_after (member_number result.to) q (ends_at self.old.links.heads.held q) }
         ensures free { self.new.free ≡ place }
         ensures cost { (steps.old ≤ steps.new) × (steps.new ≤ steps.old + 6) }
     {
         let node = self.links.nodes.get(place, steps);
-        let key = number_of(node.to);
+        let key = member_number(node.to);
         self.links
             .unlink(Side::To, key, node.to_before, node.to_after, steps);
         self.release(place, steps);
@@ -129,7 +129,7 @@ impl Arena {
     ) -> u32
         requires whole { (es : List (ℕ × ℕ)) × IsKept self.old es id }
         requires room { self.old.free < none }
-        requires known { IsKnown self.old.links.heads.held (number_of to) × IsKnown self.old.links.heads.held (number_of from) }
+        requires known { IsKnown self.old.links.heads.held (member_number to) × IsKnown self.old.links.heads.held (member_number from) }
         ensures place { result ≡ self.old.free }
         ensures whole { (es : List (ℕ × ℕ)) → IsKept self.old es id
             → IsKept self.new (es ++ (id, self.old.free) ∷ []) (id + 1)
@@ -137,8 +137,8 @@ impl Arena {
     {
         let place = self.free;
         let head = self.links.nodes.get(place, steps);
-        let to_key = number_of(to);
-        let from_key = number_of(from);
+        let to_key = member_number(to);
+        let from_key = member_number(from);
         let to_ends = self.links.heads.get(to_key);
         let from_ends = self.links.heads.get(from_key);
         let node = Node {
@@ -224,10 +224,10 @@ impl Arena {
     pub(crate) fn room(&mut self, from: Member, to: Member) -> Result<(), NoMemory>
         ensures rest { (self.new.links.nodes ≡ self.old.links.nodes) × (self.new.free ≡ self.old.free) }
         ensures same { (q : ℕ) → ends_at self.new.links.heads.held q ≡ ends_at self.old.links.heads.held q }
-        ensures known { OnOk result (IsKnown self.new.links.heads.held (number_of to) × IsKnown self.new.links.heads.held (number_of from)) }
+        ensures known { OnOk result (IsKnown self.new.links.heads.held (member_number to) × IsKnown self.new.links.heads.held (member_number from)) }
     {
-        self.links.heads.room(number_of(to))?;
-        self.links.heads.room(number_of(from))
+        self.links.heads.room(member_number(to))?;
+        self.links.heads.room(member_number(from))
     }
 
     /// Puts a message at the first free place.
@@ -242,7 +242,7 @@ impl Arena {
         requires blank { (blank.name ≡ L.name) × (blank.parts ≡ L.parts) × (0 < L.parts) }
         requires whole { (es : List (ℕ × ℕ)) × IsKept self.old es id }
         requires room { self.old.free < none }
-        requires known { IsKnown self.old.links.heads.held (number_of to) × IsKnown self.old.links.heads.held (number_of from) }
+        requires known { IsKnown self.old.links.heads.held (member_number to) × IsKnown self.old.links.heads.held (member_number from) }
         ensures whole { (es : List (ℕ × ℕ)) → IsKept self.old es id
             → IsKept self.new (es ++ (id, self.old.free) ∷ []) (id + 1)
             × (msgs_in self.new (es ++ (id, self.old.free) ∷ []) ≡ msgs_in self.old es ++ record { id = id; from = from; to = to; payload = payload } ∷ []) }

@@ -3,7 +3,7 @@ ghost use Rattle.dn_wire.specs.declared.limits.TheConstants.{MAX_FLIGHT};
 ghost use Rattle.dn_flight.specs.Flight.{IsFull, AreFrom, is_from, with_id, without_id, first_id, after_id, all_to, next_in};
 
 use crate::arena::Arena;
-use crate::heads::number_of;
+use crate::heads::member_number;
 use crate::msg::Msg;
 use dn_memory::NoMemory;
 use dn_nodes::{NONE, Steps};
@@ -118,7 +118,7 @@ impl Flight {
         ensures count { result ≡ count_by (is_from m) self.old.msgs }
         ensures cost { (steps.old ≤ steps.new) × (steps.new ≤ steps.old + 6 * result) }
     {
-        let key = number_of(m);
+        let key = member_number(m);
         let mut place = self.arena.links.heads.get(key).from_first;
         let mut dropped = 0;
         while place != NONE {
@@ -156,7 +156,7 @@ impl Flight {
     pub fn first_to(&self, m: Member) -> Option<u64>
         ensures { result ≡ first_id (all_to m self.now.msgs) }
     {
-        let place = self.arena.links.heads.get(number_of(m)).to_first;
+        let place = self.arena.links.heads.get(member_number(m)).to_first;
         self.arena.id_at::<Brand>(place, Blank::new(1))
     }
 

@@ -1,5 +1,5 @@
 ghost use Rattle.std.specs.Prelude.{◌≡◌, ◌==◌, ℕ, cond, OnOk};
-ghost use Rattle.dn_flight.specs.Arena.{number_of, ends_at, no_ends, without_from, IsKnown};
+ghost use Rattle.dn_flight.specs.Arena.{member_number, ends_at, no_ends, without_from, IsKnown};
 
 use dn_memory::NoMemory;
 use dn_nodes::NONE;
@@ -26,8 +26,8 @@ impl Ends {
 }
 
 /// Members by number.
-pub(crate) fn number_of(m: Member) -> u64
-    ensures { result ≡ number_of m }
+pub(crate) fn member_number(m: Member) -> u64
+    ensures { result ≡ member_number m }
 {
     match m {
         Member::Client(client) => 2 * client.0 as u64,

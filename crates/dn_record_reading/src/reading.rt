@@ -3,7 +3,7 @@
 ghost use Rattle.std.specs.Prelude.{◌≡◌, ◌+◌, ◌/◌, length, IfOk};
 ghost use Rattle.std.specs.Int.{w16, w32, w64};
 ghost use Rattle.dn_record_types.specs.Part.{Reads};
-ghost use Rattle.dn_record_types.specs.Fields.{read_byte, read_number, read_limited, read_bytes, read_inner, read_few, read_flag, sized, short, word, up_to, round, client, server, slot, digest};
+ghost use Rattle.dn_record_types.specs.Fields.{read_byte, read_number, read_limited, read_bytes, read_inner, read_few, read_flag, sized, short, word, up_to, round, client_field, server_field, slot_field, digest};
 ghost use Rattle.dn_record_types.specs.Lists.{read_client};
 ghost use Rattle.dn_record_types.specs.Fields.{ends_in_zeros, read_bits};
 
@@ -96,19 +96,19 @@ pub fn round_of(reader: &mut Reader) -> Result<Round, RecordFault>
 }
 
 pub fn client_of(reader: &mut Reader) -> Result<ClientId, RecordFault>
-    ensures { Reads (λ x. x) result reader.new (client.read reader.old) }
+    ensures { Reads (λ x. x) result reader.new (client_field.read reader.old) }
 {
     Ok(ClientId(u32_of(reader)?))
 }
 
 pub fn server_of(reader: &mut Reader) -> Result<ServerId, RecordFault>
-    ensures { Reads (λ x. x) result reader.new (server.read reader.old) }
+    ensures { Reads (λ x. x) result reader.new (server_field.read reader.old) }
 {
     Ok(ServerId(u32_of(reader)?))
 }
 
 pub fn slot_of(reader: &mut Reader) -> Result<SlotId, RecordFault>
-    ensures { Reads (λ x. x) result reader.new (slot.read reader.old) }
+    ensures { Reads (λ x. x) result reader.new (slot_field.read reader.old) }
 {
     Ok(SlotId(u32_of(reader)?))
 }

@@ -4,7 +4,7 @@ use Rattle.std.specs.Int.{bit_at, w32}
 use Rattle.std.proofs.lemmas.Bool.{cases_lt, eqb-true, eq-eqb}
 use Rattle.std.proofs.lemmas.List.{get_or_past, get_or_append_left, length-append}
 use Rattle.std.proofs.lemmas.List.FromFn.{length-map-range_with_len, get_or-map-range_with_len, fill_by_all}
-use Rattle.dn_bits.specs.Bits.{bit, number_of, byte_of, bytes_of, bit_of_bytes, first_bits}
+use Rattle.dn_bits.specs.Bits.{bit, bit_number, byte_of, bytes_of, bit_of_bytes, first_bits}
 use Rattle.dn_bits.proofs.ByteLemmas.{length-bytes_of, bits_again}
 use Rattle.dn_wire.specs.Cursor.{Cursor}
 use Rattle.dn_record_types.specs.declared.fault.RecordFault.TheVariants.{Shape}
@@ -57,7 +57,7 @@ low_zero x s j small lt h = absurd (omega arith)
 below_two : (x j : ℕ) → bit_at x j < 2
 below_two x j = omega arith
 
-as_number : (x : ℕ) → x < 2 → number_of (eqb x 1) ≡ x
+as_number : (x : ℕ) → x < 2 → bit_number (eqb x 1) ≡ x
 as_number zero lt = refl
 as_number (suc zero) lt = refl
 as_number (suc (suc x)) lt = absurd (omega arith)
@@ -76,22 +76,22 @@ module _ (bytes : List ℕ) (n : ℕ) (long : length bytes ≡ (n + 7) / 8) (end
       ap (λ (k : ℕ). bit_at (get_or bytes k 0) (7 - i)) is_last
       ∙ low_zero (get_or bytes (length bytes - 1) 0) (8 * length bytes - n) (7 - i) (omega arith) (omega arith) zeros
 
-  digit : (m i : ℕ) → m < length bytes → i < 8 → number_of (bit (first_bits bytes n) (8 * m + i)) ≡ bit_at (get_or bytes m 0) (7 - i)
+  digit : (m i : ℕ) → m < length bytes → i < 8 → bit_number (bit (first_bits bytes n) (8 * m + i)) ≡ bit_at (get_or bytes m 0) (7 - i)
   digit m i lt small =
       elim (cases_lt (8 * m + i) n) [
         | inl within ↦
             let place : bit (first_bits bytes n) (8 * m + i) ≡ bit_of_bytes bytes (8 * m + i) = get_or-map-range_with_len (bit_of_bytes bytes) 0 n (8 * m + i) (8 * m + i) false within (omega arith) in
             let q : (8 * m + i) / 8 ≡ m = omega arith in
             let r : (8 * m + i) % 8 ≡ i = omega arith in
-            ap number_of place ∙ ap (λ (k : ℕ). number_of (eqb (bit_at (get_or bytes k 0) (7 - (8 * m + i) % 8)) 1)) q
-            ∙ ap (λ (k : ℕ). number_of (eqb (bit_at (get_or bytes m 0) (7 - k)) 1)) r ∙ as_number (bit_at (get_or bytes m 0) (7 - i)) (below_two (get_or bytes m 0) (7 - i))
+            ap bit_number place ∙ ap (λ (k : ℕ). bit_number (eqb (bit_at (get_or bytes k 0) (7 - (8 * m + i) % 8)) 1)) q
+            ∙ ap (λ (k : ℕ). bit_number (eqb (bit_at (get_or bytes m 0) (7 - k)) 1)) r ∙ as_number (bit_at (get_or bytes m 0) (7 - i)) (below_two (get_or bytes m 0) (7 - i))
         | inr past ↦
-            ap number_of (get_or_past (first_bits bytes n) (8 * m + i) false (omega (arith, length-first_bits bytes n)))
+            ap bit_number (get_or_past (first_bits bytes n) (8 * m + i) false (omega (arith, length-first_bits bytes n)))
             ∙ sym (last_zeros m i lt small past)
       ]
 
-  first_digit : (m : ℕ) → m < length bytes → number_of (bit (first_bits bytes n) (8 * m)) ≡ bit_at (get_or bytes m 0) 7
-  first_digit m lt = ap (λ (k : ℕ). number_of (bit (first_bits bytes n) k)) (let e : 8 * m ≡ 8 * m + 0 = omega arith in e) ∙ digit m 0 lt (omega arith)
+  first_digit : (m : ℕ) → m < length bytes → bit_number (bit (first_bits bytes n) (8 * m)) ≡ bit_at (get_or bytes m 0) 7
+  first_digit m lt = ap (λ (k : ℕ). bit_number (bit (first_bits bytes n) k)) (let e : 8 * m ≡ 8 * m + 0 = omega arith in e) ∙ digit m 0 lt (omega arith)
 
   byte_again : IsBytes bytes → (m : ℕ) → m < length bytes → byte_of (first_bits bytes n) m ≡ get_or bytes m 0
   byte_again h m lt =
@@ -122,16 +122,16 @@ high_only s digits lt z = absurd (omega arith)
 
 module _ (b : List Bool) where
   its_digits : ℕ → ℕ → ℕ
-  its_digits m i = number_of (bit b (8 * m + i))
+  its_digits m i = bit_number (bit b (8 * m + i))
 
-  with_digits : (m : ℕ) → byte_of b m ≡ byte_with (λ i. number_of (bit b (8 * m + i)))
-  with_digits m = ap (λ (k : ℕ). 128 * number_of (bit b k) + 64 * number_of (bit b (8 * m + 1)) + 32 * number_of (bit b (8 * m + 2)) + 16 * number_of (bit b (8 * m + 3)) + 8 * number_of (bit b (8 * m + 4)) + 4 * number_of (bit b (8 * m + 5)) + 2 * number_of (bit b (8 * m + 6)) + number_of (bit b (8 * m + 7))) (let e : 8 * m ≡ 8 * m + 0 = omega arith in e)
+  with_digits : (m : ℕ) → byte_of b m ≡ byte_with (λ i. bit_number (bit b (8 * m + i)))
+  with_digits m = ap (λ (k : ℕ). 128 * bit_number (bit b k) + 64 * bit_number (bit b (8 * m + 1)) + 32 * bit_number (bit b (8 * m + 2)) + 16 * bit_number (bit b (8 * m + 3)) + 8 * bit_number (bit b (8 * m + 4)) + 4 * bit_number (bit b (8 * m + 5)) + 2 * bit_number (bit b (8 * m + 6)) + bit_number (bit b (8 * m + 7))) (let e : 8 * m ≡ 8 * m + 0 = omega arith in e)
 
   last_byte : (m : ℕ) → 8 * m < length b → length b ≤ 8 * (m + 1) → byte_of b m % 2 ^ (8 * (m + 1) - length b) ≡ 0
   last_byte m below above =
       ap (λ (x : ℕ). x % 2 ^ (8 * (m + 1) - length b)) (with_digits m)
-      ∙ high_only (8 * (m + 1) - length b) (λ i. number_of (bit b (8 * m + i))) (omega arith)
-      (λ j lt. ap number_of (get_or_past b (8 * m + (7 - j)) false (omega arith)))
+      ∙ high_only (8 * (m + 1) - length b) (λ i. bit_number (bit b (8 * m + i))) (omega arith)
+      (λ j lt. ap bit_number (get_or_past b (8 * m + (7 - j)) false (omega arith)))
 
   pub string_ends : ends_in_zeros (bytes_of b) (length b) ≡ true
   string_ends =

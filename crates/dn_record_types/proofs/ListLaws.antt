@@ -11,7 +11,7 @@ use Rattle.dn_wire.specs.declared.reader.FieldFault.TheVariants as fields
 use Rattle.dn_wire.specs.declared.ids.ClientId.{ClientId}
 use Rattle.dn_record_types.specs.declared.fault.RecordFault.TheVariants.{Shape, Trailing}
 use Rattle.dn_record_types.specs.Part.{◌>>=◌, Read, Part}
-use Rattle.dn_record_types.specs.Fields.{read_inner, read_limited, spell_number, client}
+use Rattle.dn_record_types.specs.Fields.{read_inner, read_limited, spell_number, client_field}
 use Rattle.dn_record_types.specs.Lists.{read_list, read_items, several, AscendFrom, Ascend, read_client, Row, read_row, read_rows, rows, spell_row, FitsRow, read_inside, inside}
 use Rattle.dn_record_types.proofs.Laws.{IsBytes, IsBytes-take, bind_ok, not_refused, passed, ok_is, field_ok, Took, Took-then, Took-nothing, before, behind, Finds, Knows, IsExact}
 use Rattle.dn_record_types.proofs.FieldLaws.{up_to_exact, took_front}
@@ -76,21 +76,21 @@ several_exact {A} count p ec ep = record {
 
 -- ---- rows
 
-client_finds : (floor : ℕ) → IsExact client → Finds (read_client floor) client.spell (λ i. client.Fits i × (floor ≤ i.0))
+client_finds : (floor : ℕ) → IsExact client_field → Finds (read_client floor) client_field.spell (λ i. client_field.Fits i × (floor ≤ i.0))
 unfolding read_client
 client_finds floor ec c x d h e =
-    let a = bind_ok (client.read c) (λ i. cond (ltb i.0.0 floor) (Err (Shape c.at)) (Ok i)) (x, d) e in
+    let a = bind_ok (client_field.read c) (λ i. cond (ltb i.0.0 floor) (Err (Shape c.at)) (Ok i)) (x, d) e in
     let g = not_refused (ltb a.0.0.0 floor) (Shape c.at) a.0 (x, d) a.2 in
     let first = ec.finds c a.0.0 a.0.1 h a.1 in
-    subst (λ (y : ClientId × Cursor). Took c (client.spell y.0) y.1 × (client.Fits y.0 × (floor ≤ y.0.0))) g.1 (first.0, (first.1, ltb-false _ _ g.0))
+    subst (λ (y : ClientId × Cursor). Took c (client_field.spell y.0) y.1 × (client_field.Fits y.0 × (floor ≤ y.0.0))) g.1 (first.0, (first.1, ltb-false _ _ g.0))
 
-client_knows : (floor : ℕ) → IsExact client → Knows (read_client floor) client.spell (λ i. client.Fits i × (floor ≤ i.0))
+client_knows : (floor : ℕ) → IsExact client_field → Knows (read_client floor) client_field.spell (λ i. client_field.Fits i × (floor ≤ i.0))
 unfolding read_client
 client_knows floor ec x at rest fits = rw (ec.knows x at rest fits.0, le-ltb x.0 floor fits.1) refl
 
 -- what is asked of a row at a floor
 abbrev pub RowFits : {B : Type 0} → Row B → ℕ → B → Type 0
-RowFits w floor x = (client.Fits (w.key x) × (floor ≤ (w.key x).0)) × w.part.Fits (w.rest x)
+RowFits w floor x = (client_field.Fits (w.key x) × (floor ≤ (w.key x).0)) × w.part.Fits (w.rest x)
 
 -- a row is made of its client and the rest
 pub record IsRow {B : Type 0} (w : Row B) : Type 0 where
@@ -98,23 +98,23 @@ pub record IsRow {B : Type 0} (w : Row B) : Type 0 where
   pub rest : (i : ClientId) (x : w.Rest) → w.rest (w.make i x) ≡ x
   pub again : (b : B) → w.make (w.key b) (w.rest b) ≡ b
 
-row_finds : {B : Type 0} (w : Row B) → IsRow w → IsExact client → IsExact w.part → (floor : ℕ) → Finds (read_row w floor) (spell_row w) (RowFits w floor)
+row_finds : {B : Type 0} (w : Row B) → IsRow w → IsExact client_field → IsExact w.part → (floor : ℕ) → Finds (read_row w floor) (spell_row w) (RowFits w floor)
 unfolding read_row
 row_finds {B} w row ec ep floor c x d h e =
     let a = bind_ok (read_client floor c) (λ i. w.part.read i.1 >>= λ x. Ok (w.make i.0 x.0, x.1)) (x, d) e in
     let b = bind_ok (w.part.read a.0.1) (λ x. Ok (w.make a.0.0 x.0, x.1)) (x, d) a.2 in
     let first = client_finds floor ec c a.0.0 a.0.1 h a.1 in
     let second = ep.finds a.0.1 b.0.0 b.0.1 first.0.bytes b.1 in
-    let both = Took-then c (client.spell a.0.0) a.0.1 (w.part.spell b.0.0) b.0.1 first.0 second.0 in
+    let both = Took-then c (client_field.spell a.0.0) a.0.1 (w.part.spell b.0.0) b.0.1 first.0 second.0 in
     let it : B × Cursor = (w.make a.0.0 b.0.0, b.0.1) in
     subst (λ (y : B × Cursor). Took c (spell_row w y.0) y.1 × RowFits w floor y.0) (ok_is it (x, d) b.2)
-    (subst (λ (i : ClientId). Took c (client.spell i ++ w.part.spell (w.rest (w.make a.0.0 b.0.0))) b.0.1 × ((client.Fits i × (floor ≤ i.0)) × w.part.Fits (w.rest (w.make a.0.0 b.0.0)))) (sym (row.key a.0.0 b.0.0))
-    (subst (λ (r : w.Rest). Took c (client.spell a.0.0 ++ w.part.spell r) b.0.1 × ((client.Fits a.0.0 × (floor ≤ a.0.0.0)) × w.part.Fits r)) (sym (row.rest a.0.0 b.0.0)) (both, (first.1, second.1))))
+    (subst (λ (i : ClientId). Took c (client_field.spell i ++ w.part.spell (w.rest (w.make a.0.0 b.0.0))) b.0.1 × ((client_field.Fits i × (floor ≤ i.0)) × w.part.Fits (w.rest (w.make a.0.0 b.0.0)))) (sym (row.key a.0.0 b.0.0))
+    (subst (λ (r : w.Rest). Took c (client_field.spell a.0.0 ++ w.part.spell r) b.0.1 × ((client_field.Fits a.0.0 × (floor ≤ a.0.0.0)) × w.part.Fits r)) (sym (row.rest a.0.0 b.0.0)) (both, (first.1, second.1))))
 
-row_knows : {B : Type 0} (w : Row B) → IsRow w → IsExact client → IsExact w.part → (floor : ℕ) → Knows (read_row w floor) (spell_row w) (RowFits w floor)
+row_knows : {B : Type 0} (w : Row B) → IsRow w → IsExact client_field → IsExact w.part → (floor : ℕ) → Knows (read_row w floor) (spell_row w) (RowFits w floor)
 unfolding read_row
 row_knows {B} w row ec ep floor x at rest fits =
-    let i = client.spell (w.key x) in
+    let i = client_field.spell (w.key x) in
     let t = w.part.spell (w.rest x) in
     rw (append_assoc i t rest, client_knows floor ec (w.key x) at (t ++ rest) fits.0, ep.knows (w.rest x) (at + length i) rest fits.1, length-append i t)
     (ap (λ (b : B). Ok (b, record { at = (at + length i) + length t; rest = rest })) (row.again x) ∙ ap (λ (k : ℕ). Ok (x, record { at = k; rest = rest })) (omega arith))
@@ -129,7 +129,7 @@ rows_joined : {B : Type 0} (w : Row B) (floor : ℕ) (xs : List B) → AscendFro
 rows_joined w floor [] ascend h = tt
 rows_joined w floor (x ∷ xs) ascend h = (((h.0.0, ascend.0), h.0.1), rows_joined w ((w.key x).0 + 1) xs ascend.1 h.1)
 
-pub rows_exact : {B : Type 0} (w : Row B) → IsRow w → IsExact client → IsExact w.part → IsExact (rows w)
+pub rows_exact : {B : Type 0} (w : Row B) → IsRow w → IsExact client_field → IsExact w.part → IsExact (rows w)
 unfolding read_rows
 rows_exact {B} w row ec ep =
     let el = up_to_exact 512 (omega arith) in

@@ -17,7 +17,7 @@ use Rattle.dn_record_types.specs.declared.payload.Payload.TheVariants as payload
 use Rattle.dn_record_types.specs.declared.fault.RecordFault.{RecordFault}
 use Rattle.dn_record_types.specs.declared.fault.RecordFault.TheVariants as faults
 use Rattle.dn_record_types.specs.Part.{Read, Part, made, ◌⋈◌, led_by, whole, Gives}
-use Rattle.dn_record_types.specs.Fields.{read_byte, read_flag, short, word, long, up_to, few, flag, exactly, sized, bits, round, client, server, slot, digest}
+use Rattle.dn_record_types.specs.Fields.{read_byte, read_flag, short, word, long, up_to, few, flag, exactly, sized, bits, round, client_field, server_field, slot_field, digest}
 use Rattle.dn_record_types.specs.Lists.{rows, several, inside}
 use Rattle.dn_wire.specs.Signer.{signer_tag, number_of}
 use Rattle.dn_record_types.specs.Records.{entry, inventory, listed, shown_cipher, spell_thin, read_thin, thin_in, body_fields, body, word_told, told_byte, told, submission, receipt, commit, reveal, pad_bits, shown, accusation, rebuttal, concede, read_submission, read_receipt, read_inventory, read_commit, read_reveal, read_sign, read_pad_bits, read_shown, read_accusation, read_rebuttal, read_concede, read_kind, statement_bytes, IsStatement, read_statement, statement, statement_of, body_bytes, IsBody, body_of, tagged_signer, signer, signed, envelope_bytes, IsEnvelope, envelope_of, certificate, challenge, payload_bytes, IsPayload, read_tag, read_cipher, read_certificate, read_challenge, payload_of}
@@ -29,13 +29,13 @@ use Rattle.dn_record_types.proofs.ListLaws.{several_exact, IsRow, rows_exact, in
 pub round_exact : IsExact round
 round_exact = like (λ n. record { 0 = n }) (λ r. r.0) long (λ a h. refl) (λ b. refl) long_exact
 
-pub client_exact : IsExact client
+pub client_exact : IsExact client_field
 client_exact = like (λ n. record { 0 = n }) (λ i. i.0) word (λ a h. refl) (λ b. refl) word_exact
 
-server_exact : IsExact server
+server_exact : IsExact server_field
 server_exact = like (λ n. record { 0 = n }) (λ j. j.0) word (λ a h. refl) (λ b. refl) word_exact
 
-slot_exact : IsExact slot
+slot_exact : IsExact slot_field
 slot_exact = like (λ n. record { 0 = n }) (λ s. s.0) word (λ a h. refl) (λ b. refl) word_exact
 
 digest_exact : IsExact digest
@@ -59,7 +59,7 @@ inventory_exact =
     (both round (round ⋈ rows entry) round_exact (both round (rows entry) round_exact entries_exact))
 
 listed_exact : IsExact (rows listed)
-listed_exact = rows_exact listed listed_row client_exact (both server digest server_exact digest_exact)
+listed_exact = rows_exact listed listed_row client_exact (both server_field digest server_exact digest_exact)
 
 ciphers_exact : IsExact (rows shown_cipher)
 ciphers_exact = rows_exact shown_cipher cipher_row client_exact bits_exact
@@ -117,10 +117,10 @@ told_exact : IsExact told
 told_exact = like word_told told_byte (few 2) told_there told_again (few_exact 2 (omega arith))
 
 submission_exact : IsExact submission
-submission_exact = both round (round ⋈ client ⋈ digest) round_exact (both round (client ⋈ digest) round_exact (both client digest client_exact digest_exact))
+submission_exact = both round (round ⋈ client_field ⋈ digest) round_exact (both round (client_field ⋈ digest) round_exact (both client_field digest client_exact digest_exact))
 
 receipt_exact : IsExact receipt
-receipt_exact = both round (client ⋈ digest ⋈ told) round_exact (both client (digest ⋈ told) client_exact (both digest told digest_exact told_exact))
+receipt_exact = both round (client_field ⋈ digest ⋈ told) round_exact (both client_field (digest ⋈ told) client_exact (both digest told digest_exact told_exact))
 
 commit_exact : IsExact commit
 commit_exact = both round digest round_exact digest_exact
@@ -135,13 +135,13 @@ shown_exact : IsExact shown
 shown_exact = both round (bits ⋈ rows shown_cipher) round_exact (both bits (rows shown_cipher) bits_exact ciphers_exact)
 
 accusation_exact : IsExact accusation
-accusation_exact = both round (slot ⋈ word) round_exact (both slot word slot_exact word_exact)
+accusation_exact = both round (slot_field ⋈ word) round_exact (both slot_field word slot_exact word_exact)
 
 rebuttal_exact : IsExact rebuttal
 rebuttal_exact =
-    both round (word ⋈ server ⋈ exactly 32 ⋈ sized (up_to 65535)) round_exact
-    (both word (server ⋈ exactly 32 ⋈ sized (up_to 65535)) word_exact
-    (both server (exactly 32 ⋈ sized (up_to 65535)) server_exact
+    both round (word ⋈ server_field ⋈ exactly 32 ⋈ sized (up_to 65535)) round_exact
+    (both word (server_field ⋈ exactly 32 ⋈ sized (up_to 65535)) word_exact
+    (both server_field (exactly 32 ⋈ sized (up_to 65535)) server_exact
     (both (exactly 32) (sized (up_to 65535)) (exactly_exact 32) (sized_exact (up_to 65535) (up_to_exact 65535 (omega arith))))))
 
 concede_exact : IsExact concede

@@ -89,14 +89,14 @@ bits = record { spell = λ b. spell_number w32 (length b) ++ bytes_of b; read = 
 abbrev pub round : Part Round
 round = seen (λ n. record { 0 = n }) (λ r. r.0) long
 
-abbrev pub client : Part ClientId
-client = seen (λ n. record { 0 = n }) (λ i. i.0) word
+abbrev pub client_field : Part ClientId
+client_field = seen (λ n. record { 0 = n }) (λ i. i.0) word
 
-abbrev pub server : Part ServerId
-server = seen (λ n. record { 0 = n }) (λ j. j.0) word
+abbrev pub server_field : Part ServerId
+server_field = seen (λ n. record { 0 = n }) (λ j. j.0) word
 
-abbrev pub slot : Part SlotId
-slot = seen (λ n. record { 0 = n }) (λ s. s.0) word
+abbrev pub slot_field : Part SlotId
+slot_field = seen (λ n. record { 0 = n }) (λ s. s.0) word
 
 abbrev pub digest : Part (List ℕ)
 digest = exactly 32

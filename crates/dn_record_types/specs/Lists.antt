@@ -7,7 +7,7 @@ use Rattle.dn_wire.specs.declared.limits.TheConstants.{MAX_CLIENTS}
 use Rattle.dn_wire.specs.declared.ids.ClientId.{ClientId}
 use Rattle.dn_record_types.specs.declared.fault.RecordFault.TheVariants.{Shape, Trailing}
 use Rattle.dn_record_types.specs.Part.{Part, Read, ◌>>=◌}
-use Rattle.dn_record_types.specs.Fields.{client, read_limited, read_inner, spell_number}
+use Rattle.dn_record_types.specs.Fields.{client_field, read_limited, read_inner, spell_number}
 
 -- n values, one after the other; each may set the floor of the next
 unfoldable pub read_list : {A : Type 0} → (ℕ → Cursor → Read A) → (A → ℕ) → ℕ → ℕ → Cursor → Read (List A)
@@ -39,7 +39,7 @@ Ascend ids = AscendFrom 0 ids
 
 -- a client that may not be below floor
 unfoldable pub read_client : ℕ → Cursor → Read ClientId
-read_client floor c = client.read c >>= λ i. if nat_lt i.0.0 floor then Err (Shape c.at) else Ok i
+read_client floor c = client_field.read c >>= λ i. if nat_lt i.0.0 floor then Err (Shape c.at) else Ok i
 
 -- A kind of value that begins with a client, and is made of it and the rest.
 pub record Row (B : Type 0) : Type 1 where
@@ -57,11 +57,11 @@ read_rows w n c = read_list (read_row w) (λ x. (w.key x).0 + 1) n 0 c
 
 -- its bytes: the client, and the rest
 abbrev pub spell_row : {B : Type 0} → Row B → B → List ℕ
-spell_row w x = client.spell (w.key x) ++ w.part.spell (w.rest x)
+spell_row w x = client_field.spell (w.key x) ++ w.part.spell (w.rest x)
 
 -- what is asked of it, but for the order
 abbrev pub FitsRow : {B : Type 0} → Row B → B → Type 0
-FitsRow w x = client.Fits (w.key x) × w.part.Fits (w.rest x)
+FitsRow w x = client_field.Fits (w.key x) × w.part.Fits (w.rest x)
 
 -- at most as many of them as a group has clients, behind their number, whose clients ascend
 abbrev pub rows : {B : Type 0} → Row B → Part (List B)

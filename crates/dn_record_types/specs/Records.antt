@@ -24,7 +24,7 @@ use Rattle.dn_record_types.specs.declared.payload.Payload.TheVariants as payload
 use Rattle.dn_record_types.specs.declared.fault.RecordFault.{RecordFault}
 use Rattle.dn_record_types.specs.declared.fault.RecordFault.TheVariants.{Kind}
 use Rattle.dn_record_types.specs.Part.{Part, Read, made, ◌>>=◌, ◌⋈◌, led_by, seen, whole}
-use Rattle.dn_record_types.specs.Fields.{short, word, up_to, few, flag, exactly, sized, bits, round, client, server, slot, digest, read_byte, read_flag}
+use Rattle.dn_record_types.specs.Fields.{short, word, up_to, few, flag, exactly, sized, bits, round, client_field, server_field, slot_field, digest, read_byte, read_flag}
 use Rattle.dn_record_types.specs.Lists.{Row, rows, several, inside}
 
 abbrev pub entry : Row Entry
@@ -45,7 +45,7 @@ listed = record {
   key = λ l. l.client;
   rest = λ l. (l.server, l.digest);
   make = λ i x. record { client = i; server = x.0; digest = x.1 };
-  part = server ⋈ digest;
+  part = server_field ⋈ digest;
 }
 
 abbrev pub shown_cipher : Row ShownCipher
@@ -90,10 +90,10 @@ told = seen word_told told_byte (few 2)
 
 -- what follows the kind byte of each statement
 abbrev pub submission : Part (Round × (Round × (ClientId × List ℕ)))
-submission = round ⋈ round ⋈ client ⋈ digest
+submission = round ⋈ round ⋈ client_field ⋈ digest
 
 abbrev pub receipt : Part (Round × (ClientId × (List ℕ × WordTold)))
-receipt = round ⋈ client ⋈ digest ⋈ told
+receipt = round ⋈ client_field ⋈ digest ⋈ told
 
 abbrev pub commit : Part (Round × List ℕ)
 commit = round ⋈ digest
@@ -108,10 +108,10 @@ abbrev pub shown : Part (Round × (List Bool × List ShownCipher))
 shown = round ⋈ bits ⋈ rows shown_cipher
 
 abbrev pub accusation : Part (Round × (SlotId × ℕ))
-accusation = round ⋈ slot ⋈ word
+accusation = round ⋈ slot_field ⋈ word
 
 abbrev pub rebuttal : Part (Round × (ℕ × (ServerId × (List ℕ × List ℕ))))
-rebuttal = round ⋈ word ⋈ server ⋈ exactly 32 ⋈ sized (up_to MAX_CARRIED_BYTES)
+rebuttal = round ⋈ word ⋈ server_field ⋈ exactly 32 ⋈ sized (up_to MAX_CARRIED_BYTES)
 
 abbrev pub concede : Part (Round × ℕ)
 concede = round ⋈ word

@@ -1,9 +1,9 @@
-use Rattle.std.proofs.Common.{◌∙◌, ap, length, get_or, take, refl, arith}
+use Rattle.std.proofs.Common.{◌∙◌, ap, length, get_or, take, refl}
 use Rattle.dn_bits.specs.Bits.{xor_bits}
 use Rattle.dn_pads.specs.Pads.{pad_of}
 use Rattle.dn_roster.specs.Dealing.{pair_seed_of}
 use Rattle.dn_cmd.specs.Round.{pair_pad}
-use Rattle.dn_cmd.proofs.RoundLemmas.{add_none, add_next, length-so_far, length-pad, counted_within}
+use Rattle.dn_cmd.proofs.RoundLemmas.{add_none, add_next, length-so_far, length-pad}
 use Rattle.dn_cmd.proofs.round.add_server_pads.Goals as goal
 
 pub loop-client-init : goal.loop-client-init

@@ -26,7 +26,7 @@ unlink-requires g c =
         subst (λ (x : Node). x.to_before ≤ none) (sym here) (before_low (node_at nodes) (node_at nodes) (ends_at heads) (ends_at heads) c.args.self.now.free r.3 r.0 r.1 r.2 r.5.whole To),
         subst (λ (x : Node). x.to_after ≤ none) (sym here) (after_low (node_at nodes) (node_at nodes) (ends_at heads) (ends_at heads) c.args.self.now.free r.3 r.0 r.1 r.2 r.5.whole To),
         omega (arith, r.5.long),
-        subst (IsKnown heads) (sym (c.number_of-to.ensures ∙ ap (key_of To) here)) (known To heads (key_of To (node_at nodes r.1.1)) (has_end (node_at nodes) (node_at nodes) (ends_at heads) (ends_at heads) c.args.self.now.free r.3 r.0 r.1 r.2 r.5.whole To)),
+        subst (IsKnown heads) (sym (c.member_number-to.ensures ∙ ap (key_of To) here)) (known To heads (key_of To (node_at nodes r.1.1)) (has_end (node_at nodes) (node_at nodes) (ends_at heads) (ends_at heads) c.args.self.now.free r.3 r.0 r.1 r.2 r.5.whole To)),
       );
     }
 
@@ -41,7 +41,7 @@ unlink-requires-2 g c =
         subst (λ (x : Node). x.from_before ≤ none) (sym here) (before_low (node_at nodes) (node_at nodes) (ends_at heads) (ends_at heads) c.args.self.now.free r.3 r.0 r.1 r.2 r.5.whole From),
         subst (λ (x : Node). x.from_after ≤ none) (sym here) (after_low (node_at nodes) (node_at nodes) (ends_at heads) (ends_at heads) c.args.self.now.free r.3 r.0 r.1 r.2 r.5.whole From),
         omega (arith, r.5.long, c.unlink.ensures.long),
-        c.unlink.ensures.stay c.number_of-from.result (subst (IsKnown heads) (sym (c.number_of-from.ensures ∙ ap (key_of From) here)) (known From heads (key_of From (node_at nodes r.1.1)) (has_end (node_at nodes) (node_at nodes) (ends_at heads) (ends_at heads) c.args.self.now.free r.3 r.0 r.1 r.2 r.5.whole From))),
+        c.unlink.ensures.stay c.member_number-from.result (subst (IsKnown heads) (sym (c.member_number-from.ensures ∙ ap (key_of From) here)) (known From heads (key_of From (node_at nodes r.1.1)) (has_end (node_at nodes) (node_at nodes) (ends_at heads) (ends_at heads) c.args.self.now.free r.3 r.0 r.1 r.2 r.5.whole From))),
       );
     }
 
@@ -74,8 +74,8 @@ returns-clause-whole g c = λ b e a next at w.
     ∙ (λ j. cond (p == sym at j) (free_node free) (unlinked From (before_of From (here j)) (after_of From (here j)) p (unlinked To (before_of To (here j)) (after_of To (here j)) p (node_at nodes p))))) in
     let ends_each = (λ (q : ℕ).
     ap (λ h. ends_at h.held q) c.release.ensures.rest.0
-    ∙ c.unlink-2.ensures.heads q ∙ ap (λ x. unended From node.from_before node.from_after c.number_of-from.result q x) (c.unlink.ensures.heads q)
-    ∙ (λ j. unended From node.from_before node.from_after (c.number_of-from.ensures j) q (unended To node.to_before node.to_after (c.number_of-to.ensures j) q (ends_at heads q)))
+    ∙ c.unlink-2.ensures.heads q ∙ ap (λ x. unended From node.from_before node.from_after c.member_number-from.result q x) (c.unlink.ensures.heads q)
+    ∙ (λ j. unended From node.from_before node.from_after (c.member_number-from.ensures j) q (unended To node.to_before node.to_after (c.member_number-to.ensures j) q (ends_at heads q)))
     ∙ (λ j. unended From (before_of From (here j)) (after_of From (here j)) (key_of From (here j)) q (unended To (before_of To (here j)) (after_of To (here j)) (key_of To (here j)) q (ends_at heads q)))) in
     let now = whole_removed (node_at nodes) (node_at nodes') (ends_at heads) (ends_at heads') free next b e a w.whole at_each ends_each in
     (record { long = long ∙ w.long; whole = subst (λ (k : ℕ). IsWhole (node_at nodes') (ends_at heads') k (b ++ a) next) (at ∙ sym c.release.ensures.rest.1) now }, msgs_same (node_at nodes) (node_at nodes') (ends_at heads) (ends_at heads') free next b e a w.whole at_each ends_each)

@@ -3,7 +3,7 @@ use Rattle.std.specs.BTreeMap.{is_at}
 use Rattle.std.specs.Map.{remove_entry}
 use Rattle.std.specs.Ordering.{nat_cmp}
 use Rattle.dn_nodes.specs.declared.node.Node.{Node}
-use Rattle.dn_flight.specs.Arena.{none, node_at, ends_at, number_of, free_node, without_from}
+use Rattle.dn_flight.specs.Arena.{none, node_at, ends_at, member_number, free_node, without_from}
 use Rattle.dn_flight.specs.Flight.{is_from}
 use Rattle.dn_flight.specs.Whole.{msgs_at, unlinked, unended}
 use Rattle.dn_flight.specs.declared.side.Side.TheVariants.{To}
@@ -27,7 +27,7 @@ detach-node-requires-clause-near g c =
     let x = ends_at f.arena.links.heads.held in (
       before_below c.args.m n x f.arena.free f.places.entries f.next c.loop-place.place i.nodes i.ends i.leaving c.loop-place-test.true,
       after_below c.args.m n x f.arena.free f.places.entries f.next c.loop-place.place i.nodes i.ends i.leaving c.loop-place-test.true,
-      known To f.arena.links.heads.held (number_of (n c.loop-place.place).to) (receiver_end c.args.m n x f.arena.free f.places.entries f.next c.loop-place.place i.nodes i.ends i.leaving c.loop-place-test.true),
+      known To f.arena.links.heads.held (member_number (n c.loop-place.place).to) (receiver_end c.args.m n x f.arena.free f.places.entries f.next c.loop-place.place i.nodes i.ends i.leaving c.loop-place-test.true),
     )
 
 pub loop-place-smaller : goal.loop-place-smaller
@@ -61,7 +61,7 @@ loop-place-preserved g c =
     let goes = c.remove.ensures.entries ∙ (λ j. remove_entry (is_at (nat_cmp (here j).id)) es) ∙ entry_goes m n x free es f.next place i.nodes i.ends i.leaving more in
     let done = leaves_more m n x free es f.next place i.nodes i.ends i.leaving more n' x'
     (λ (p : ℕ) (low : p < none). c.detach-node.ensures.nodes p low ∙ (λ j. cond (p == place) (free_node free) (unlinked To (here j).to_before (here j).to_after p (n p))))
-    (λ (q : ℕ). c.detach-node.ensures.ends q ∙ (λ j. unended To (here j).to_before (here j).to_after (number_of (here j).to) q (x q))) in
+    (λ (q : ℕ). c.detach-node.ensures.ends q ∙ (λ j. unended To (here j).to_before (here j).to_after (member_number (here j).to) q (x q))) in
     record {
       long = c.detach-node.ensures.long ∙ i.long;
       nodes = v;
@@ -84,7 +84,7 @@ invariant_of-self g c =
     record {
       long = i.long;
       whole = whole_left c.args.m (node_at f.arena.links.nodes) (ends_at f.arena.links.heads.held) f.arena.free f.places.entries f.next c.loop-place.place i.nodes i.ends i.leaving c.loop-place-test.false x'
-          (λ (q : ℕ). c.end_from.ensures q ∙ ap (λ (k : ℕ). cond (q == k) (without_from (ends_at f.arena.links.heads.held q)) (ends_at f.arena.links.heads.held q)) c.number_of-key.ensures);
+          (λ (q : ℕ). c.end_from.ensures q ∙ ap (λ (k : ℕ). cond (q == k) (without_from (ends_at f.arena.links.heads.held q)) (ends_at f.arena.links.heads.held q)) c.member_number-key.ensures);
     }
 
 pub returns-clause-left : goal.returns-clause-left
