@@ -27,11 +27,23 @@ fn server(j: u32) -> SignerId {
 
 /// The submission that the body lists of a client, and its envelope.
 fn submitted(alloc: Global, played: &Played, i: u32) -> Result<(Taken, Vec<u8>)> {
-    let row = played.body.listed.get().get(i as usize).context("no such client")?;
+    let row = played
+        .body
+        .listed
+        .get()
+        .get(i as usize)
+        .context("no such client")?;
     let statement = submission(alloc, played, i, row.digest)?;
-    let envelope = sealed(alloc, &played.dealt, SignerId::Client(ClientId(i)), &statement)?;
+    let envelope = sealed(
+        alloc,
+        &played.dealt,
+        SignerId::Client(ClientId(i)),
+        &statement,
+    )?;
     // The signature stands behind tag, number, length and the statement.
-    let signature = envelope.get(9..).and_then(|rest| rest.get(statement.len()..));
+    let signature = envelope
+        .get(9..)
+        .and_then(|rest| rest.get(statement.len()..));
     let signature = signature.context("no signature")?.to_vec(alloc)?;
     Ok(((i, row.digest, signature), envelope))
 }
@@ -80,7 +92,12 @@ fn said_of_client(
     let pads = pad_bits(alloc, played, j, &[])?;
     let carried = sealed(alloc, &played.dealt, server(j), &pads)?;
     let rebuttal = rebuttal(alloc, played, i, j, &carried)?;
-    out.push(sealed(alloc, &played.dealt, SignerId::Client(ClientId(i)), &rebuttal)?)?;
+    out.push(sealed(
+        alloc,
+        &played.dealt,
+        SignerId::Client(ClientId(i)),
+        &rebuttal,
+    )?)?;
     Ok(())
 }
 
@@ -113,7 +130,11 @@ fn timed(
     let start = Instant::now(rt)?;
     let verdict = judged(alloc, played, &heard)?;
     let seconds = start.elapsed(rt)?.as_secs_f64();
-    Ok((seconds, verdict.blamed.get().len(), verdict.silent.get().len()))
+    Ok((
+        seconds,
+        verdict.blamed.get().len(),
+        verdict.silent.get().len(),
+    ))
 }
 
 /// Judges half as many envelopes as asked for, and then all. The envelopes of one round are signed once and come again and again: the
