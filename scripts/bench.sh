@@ -121,25 +121,6 @@ rate() { # NAME LEAST-MB-A-SECOND OUR-WORDS
     fi
 }
 
-# Runs one measure of ours, which does half of a work and then the whole of it and tells the seconds of both on standard error as
-# 'half SECONDS whole SECONDS', and prints how many times as long the whole takes.
-doubled() { # NAME LIMIT OUR-WORDS
-    python3 - "$1" "$2" "$bench" "$3" <<'END' || broken=1
-import subprocess, sys
-name, limit, program, words = sys.argv[1:]
-def run():
-    done = subprocess.run([program, *words.split()], capture_output=True, text=True, check=True)
-    fields = done.stderr.split()
-    return {part: float(seconds) for part, seconds in zip(fields[::2], fields[1::2])}
-runs = [run() for _ in range(3)]
-half, whole = (min(parts[part] for parts in runs) for part in ("half", "whole"))
-ratio = round(whole / half, 2)
-holds = ratio <= float(limit)
-print(f"{name}: {whole:.2f} s, half of it {half:.2f} s: {ratio:.2f} times, at most {limit}: {'holds' if holds else 'BROKEN'}")
-sys.exit(not holds)
-END
-}
-
 peer=
 if [ ! -d "$peer_sources" ]; then
     echo "plain Rust: skipped, no folder $peer_sources"
@@ -156,7 +137,6 @@ bench=$(built bench)
 compare '512 pads of 65,536 bits, 20 times' 3 'pads 512 65536 20' 'pads 512 8192 20'
 compare_parts 'LMS of height 10 with digits of four bits' 'make=0.55 sign=1 verify=1' 'lms 6 3 2000'
 compare 'dealing a group of 48 clients and 3 servers' 0.65 'deal 48 3 3 5 6 1' 'deal 48 3 3 5 6 1'
-doubled 'a verdict over 65,536 envelopes, 512 clients, 16 servers' 2.3 'verdicts 512 16 65536'
 rate '1,000 inventories of 100 entries with signatures of 1,292 bytes' 200 'records 1000 100 1292'
 rate 'a post line of 8 MB, read and printed 20 times' 200 'post 4000000 20'
 rate 'a script of 8 MB in 65,000 lines, read 20 times' 50 'script 65000 59 20'

@@ -10,7 +10,6 @@ mod lms;
 mod pads;
 mod records;
 mod text;
-mod verdicts;
 
 use anyhow::{Context, Result, bail};
 use dn_roster::GroupSpec;
@@ -76,13 +75,6 @@ fn measure(rt: &HostRuntime, words: &[String]) -> Result<String> {
             number(words, 3)?,
         ),
         "deal" => deal::line(alloc, group(words)?),
-        "verdicts" => verdicts::line(
-            rt,
-            alloc,
-            number(words, 1)?,
-            number(words, 2)?,
-            number(words, 3)?,
-        ),
         "flight" => flight::line(rt, alloc, number(words, 1)?, number(words, 2)?),
         name => bail!("no measure {name:?}"),
     }
