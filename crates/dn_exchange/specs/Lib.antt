@@ -1,0 +1,6 @@
+pub mod Opening
+pub mod Submitting
+pub mod Closing
+pub mod Hearing
+pub mod Ending
+pub mod Making
