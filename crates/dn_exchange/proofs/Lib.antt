@@ -1,1 +1,3 @@
 pub mod OpenLemmas
+pub mod CloseLemmas
+pub mod HearLemmas

@@ -1,6 +1,7 @@
 -- What a server does as the window of its round closes, and what it is afterwards.
-use Rattle.std.specs.Prelude.{◌≡◌, ℕ, true, false, List, [], ◌∷◌, Option, Some, None}
-use Rattle.std.specs.List.{filter_map, enumerate_from}
+use Rattle.std.specs.Prelude.{◌≡◌, ℕ, true, false, List, [], ◌∷◌, Option, Some, None, length, slice_get}
+use Rattle.std.specs.List.{filter_map}
+use Rattle.dn_bits.specs.Bits.{below}
 use Rattle.dn_record_types.specs.declared.inventory.Entry.{Entry}
 use Rattle.dn_record_types.specs.declared.inventory.Inventory.{Inventory}
 use Rattle.dn_record_types.specs.declared.statement.Statement.{Statement}
@@ -24,13 +25,22 @@ abbrev pub entry_for : ℕ → WordTold → Claim → Option Entry
 entry_for i words.Included claim = Some (record { client = record { 0 = i }; digest = claim.digest; signature = claim.signature })
 entry_for i words.Late claim = None
 
-abbrev pub entry_of : ℕ × Option Claim → Option Entry
-entry_of (i, None) = None
-entry_of (i, Some claim) = entry_for i claim.told claim
+abbrev pub entry_from : ℕ → Option (Option Claim) → Option Entry
+entry_from i None = None
+entry_from i (Some None) = None
+entry_from i (Some (Some claim)) = entry_for i claim.told claim
 
--- the server's inventory: the submissions told Included, in order of clients
+-- the entry of client i, where it has a claim that was told Included
+abbrev pub entry_at : List (Option Claim) → ℕ → Option Entry
+entry_at claims i = entry_from i (slice_get claims i)
+
+-- the entries of the submissions told Included, in order of clients
+abbrev pub entries_of : List (Option Claim) → List Entry
+entries_of claims = filter_map (entry_at claims) (below (length claims))
+
+-- the server's inventory of its round
 abbrev pub inventory_of : Run → Inventory
-inventory_of run = record { r = run.r; prev = run.prev; entries = filter_map entry_of (enumerate_from 0 run.claims) }
+inventory_of run = record { r = run.r; prev = run.prev; entries = entries_of run.claims }
 
 -- the server with its window closed by the call
 abbrev pub with_window : ServerView → WindowState → ServerView

@@ -1,5 +1,5 @@
 -- What a server answers to a statement that a server made of a round, and what it is afterwards.
-use Rattle.std.specs.Prelude.{◌≡◌, ◌≢◌, ℕ, ◌<◌, ◌≤◌, ◌++◌, ◌⊎◌, Bool, true, false, List, [], ◌∷◌, length, Some, None, slice_get}
+use Rattle.std.specs.Prelude.{◌≡◌, ◌≢◌, ℕ, ◌<◌, ◌≤◌, ◌++◌, ◌⊎◌, Bool, true, false, List, [], ◌∷◌, length, Option, Some, None, MatchOption, slice_get}
 use Rattle.std.specs.Int.{w64, to_be_bytes}
 use Rattle.dn_wire.specs.declared.ids.Round.{Round}
 use Rattle.dn_record_types.specs.declared.body.Body.{Body}
@@ -17,7 +17,9 @@ use Rattle.dn_server.specs.declared.act.SpoilReason.TheVariants as spoils
 use Rattle.dn_server.specs.declared.answer.Answer.{Answer}
 use Rattle.dn_server.specs.declared.answer.Answer.TheVariants as answers
 use Rattle.dn_server.specs.declared.answer.Reason.TheVariants as reasons
+use Rattle.dn_server.specs.declared.run.Run.{Run}
 use Rattle.dn_server.specs.declared.run.Stage.TheVariants as stages
+use Rattle.dn_exchange.specs.declared.hearing.Found.{Found}
 use Rattle.dn_seal.specs.Dealt.{server}
 use Rattle.dn_server.specs.Keeping.{round_of}
 use Rattle.dn_server.specs.Justified.{digest_by}
@@ -101,3 +103,30 @@ pub data Hears (v : ServerView) (said : SaidView) (answer : Answer) (after : Ser
   not_by_server : IsOfServers said.statement → ((j : ℕ) → said.signer ≢ server j) → answer ≡ ignored reasons.Kind → after ≡ v → Hears v said answer after
   of_round : (j : ℕ) (r : Round) → said.signer ≡ server j → round_of said.statement ≡ Some r → HearsRound v j r said answer after → Hears v said answer after
   of_other_kind : round_of said.statement ≡ None → answer ≡ ignored reasons.Kind → after ≡ v → Hears v said answer after
+
+-- ---- words of the bodies
+
+-- each entry of the inventory verifies
+abbrev pub AllVerify : ServerView → Inventory → Type 0
+AllVerify v inventory = (k : ℕ) (e : Entry) → slice_get inventory.entries k ≡ Some e → EntryVerifies v.seat.roster inventory.r inventory.prev e
+
+-- the fault as it was found
+abbrev pub told_of : Found → Differing
+told_of found = record { reason = found.reason; kept = found.kept.items; came = found.came.items }
+
+-- what was found of a statement: no fault, or its fault
+abbrev pub FaultFound : ServerView → ℕ → Statement → Option Found → Type 0
+FaultFound v j s found = MatchOption found ((fault : Differing) → ¬ HasFault v j s fault) (λ d. HasFault v j s (told_of d))
+
+-- what was found of a ciphertext: it is the one that was committed to, or how it differs
+abbrev pub DiffersFrom : Run → ℕ → List ℕ → List Bool → Option Found → Type 0
+DiffersFrom run j committed s found =
+    MatchOption found (committed ≡ digest_by (course_of run) j s)
+    (λ d. (committed ≢ digest_by (course_of run) j s) × (told_of d ≡ record { reason = spoils.Commit; kept = committed; came = digest_by (course_of run) j s }))
+
+-- What becomes of a statement of the round that is new: it is kept, and its fault ends the run, or the server goes on.
+abbrev pub KeepsHeard : ServerView → ℕ → SaidView → Answer → ServerView → Type 0
+KeepsHeard v j said answer after =
+    ((fault : Differing) × HasFault v j said.statement fault
+    × (answer ≡ does (acts.Spoiled (record { 0 = j }) fault.reason fault.kept fault.came ∷ [])) × (after ≡ ended (with_kept v said)))
+    ⊎ ((did : List Act) × ((fault : Differing) → ¬ HasFault v j said.statement fault) × GoesOn (with_kept v said) did after × (answer ≡ does did))

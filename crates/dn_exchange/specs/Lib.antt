@@ -1,3 +1,4 @@
+pub mod Ready
 pub mod Opening
 pub mod Submitting
 pub mod Closing

@@ -4,6 +4,8 @@
 //! Contracts see a server as a `ServerView`. `specs/` has a relation for each call, which gives the answer and the server after it.
 #![tactic(auto)]
 
+mod closing;
 mod ending;
+mod hearing;
 mod opening;
 mod submitting;
