@@ -5,3 +5,4 @@ pub mod Closing
 pub mod Hearing
 pub mod Ending
 pub mod Making
+pub mod Invariant

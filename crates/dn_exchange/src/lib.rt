@@ -7,5 +7,9 @@
 mod closing;
 mod ending;
 mod hearing;
+mod making;
 mod opening;
+mod server_core;
 mod submitting;
+
+pub use server_core::ServerCore;
