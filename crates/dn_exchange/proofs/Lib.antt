@@ -1,3 +1,5 @@
 pub mod OpenLemmas
 pub mod CloseLemmas
 pub mod HearLemmas
+pub mod EndSound
+pub mod FirstSound

@@ -1,5 +1,6 @@
 -- What a server keeps true from call to call.
 use Rattle.std.specs.Prelude.{◌≡◌, ℕ, ◌+◌, ◌≤◌, ◌<◌, ◌^◌, false, true, List, length, All, Some, slice_get}
+use Rattle.dn_wire.specs.declared.ids.Round.{Round}
 use Rattle.dn_bits.specs.Bits.{bytes_of}
 use Rattle.dn_hash.specs.Digests.{cipher_digest_of}
 use Rattle.dn_record_types.specs.declared.body.Body.{Body}
@@ -8,7 +9,7 @@ use Rattle.dn_record_types.specs.declared.statement.Statement.TheVariants as kin
 use Rattle.dn_layout.specs.Layout.{bits_of}
 use Rattle.dn_window.specs.Window.{clients_of}
 use Rattle.dn_cert.specs.Certificate.{IsOfRoster}
-use Rattle.dn_cert.specs.Chain.{ChainView, bodies, Holds, IsChain, IsLayoutAfter, CanFollow}
+use Rattle.dn_cert.specs.Chain.{ChainView, bodies, Holds, IsLayoutAfter, CanFollow}
 use Rattle.dn_cert.specs.Signed.{EntryVerifies}
 use Rattle.dn_lms.specs.Key.{leaf_count}
 use Rattle.dn_server.specs.declared.claims.Claim.{Claim}
@@ -27,26 +28,26 @@ use Rattle.dn_exchange.specs.Closing.{inventory_of}
 abbrev pub claimed_entry : ℕ → Claim → Entry
 claimed_entry i claim = record { client = record { 0 = i }; digest = claim.digest; signature = claim.signature }
 
--- A claim of client i: the client is one of the group and signed a submission of the round with this digest, which is that of the ciphertext;
--- and this has the round's length.
-pub record IsClaim (seat : Seat) (run : Run) (i : ℕ) (claim : Claim) : Type 0 where
+-- A claim of client i in round r after prev, which has so many bits: the client is one of the group and signed a submission of the round with
+-- this digest, which is that of the ciphertext; and this has the round's length.
+pub record IsClaim (seat : Seat) (r prev : Round) (bits i : ℕ) (claim : Claim) : Type 0 where
   pub within : i < length seat.roster.clients
-  pub long : length claim.cipher ≡ run.bits
-  pub digest : claim.digest ≡ cipher_digest_of run.r.0 i (bytes_of claim.cipher)
-  pub verifies : EntryVerifies seat.roster run.r run.prev (claimed_entry i claim)
+  pub long : length claim.cipher ≡ bits
+  pub digest : claim.digest ≡ cipher_digest_of r.0 i (bytes_of claim.cipher)
+  pub verifies : EntryVerifies seat.roster r prev (claimed_entry i claim)
 
 abbrev pub AreClaims : Seat → Run → Type 0
-AreClaims seat run = (i : ℕ) (claim : Claim) → slice_get run.claims i ≡ Some (Some claim) → IsClaim seat run i claim
+AreClaims seat run = (i : ℕ) (claim : Claim) → slice_get run.claims i ≡ Some (Some claim) → IsClaim seat run.r run.prev run.bits i claim
 
--- A round on a chain that doesn't hold it: it follows a round of the chain, and has the bits of the layout after that.
-pub record IsCourse (chain : ChainView) (run : Run) : Type 0 where
-  pub before : run.prev.0 < run.r.0
-  pub small : run.r.0 < 2 ^ 64
+-- Round r of a chain that doesn't hold it: it follows a round of the chain, and has the bits of the layout after that.
+pub record IsCourse (chain : ChainView) (r prev : Round) (bits : ℕ) : Type 0 where
+  pub before : prev.0 < r.0
+  pub small : r.0 < 2 ^ 64
   pub layout : List ℕ
-  pub after : IsLayoutAfter chain run.prev.0 layout
-  pub bits : run.bits ≡ bits_of layout
-  pub few : run.bits ≤ 65536
-  pub unheld : ¬ Holds chain run.r.0
+  pub after : IsLayoutAfter chain prev.0 layout
+  pub bits_are : bits ≡ bits_of layout
+  pub few : bits ≤ 65536
+  pub unheld : ¬ Holds chain r.0
 
 -- the server's inventory stands as it was signed
 abbrev pub HasListed : ServerView → Type 0
@@ -77,7 +78,7 @@ IsAtStage stages.Signed v = HasListed v × HasSigned v
 
 -- A round that runs: what is kept of it is sound, inventories and ciphertexts fit, and the stage has what it needs.
 pub record IsRunning (v : ServerView) : Type 0 where
-  pub course : IsCourse v.chain v.run
+  pub course : IsCourse v.chain v.run.r v.run.prev v.run.bits
   pub kept : AreSound v v.run.kept
   pub inventories : InventoriesVerify v
   pub strings : StringsFit v
@@ -88,7 +89,6 @@ pub record IsRunning (v : ServerView) : Type 0 where
 pub record IsSound (v : ServerView) : Type 0 where
   pub seated : IsSeated v
   pub workers : (1 ≤ v.workers) × (v.workers ≤ 16)
-  pub chain : IsChain v.chain
   pub slots : v.chain.slots ≡ length v.seat.roster.clients
   pub in_group : All (IsOfRoster v.seat.roster) (bodies v.chain)
   pub window : clients_of v.run.window ≡ length v.seat.roster.clients

@@ -1,5 +1,5 @@
 -- What a server answers that is to open a round, and what it is afterwards.
-use Rattle.std.specs.Prelude.{◌≡◌, ℕ, ◌<◌, ◌≤◌, ◌%◌, ◌⊎◌, ◌==◌, true, false, List, [], ◌∷◌, length, replicate, count_by, None}
+use Rattle.std.specs.Prelude.{◌≡◌, ℕ, ◌<◌, ◌≤◌, ◌%◌, ◌^◌, ◌⊎◌, ◌==◌, true, false, List, [], ◌∷◌, length, replicate, count_by, None}
 use Rattle.dn_wire.specs.declared.ids.Round.{Round}
 use Rattle.dn_bits.specs.Bits.{below}
 use Rattle.dn_layout.specs.Layout.{bits_of}
@@ -50,3 +50,7 @@ pub data Opens (v : ServerView) (r : Round) (answer : Answer) (after : ServerVie
       → answer ≡ does (acts.Opened r prev ∷ [])
       → after ≡ record v { aside = 4; run = fresh_run (length v.seat.roster.clients) (expected_by v.seat) r prev (bits_of layout) }
       → Opens v r answer after
+
+-- the round has no more bits and no greater number than a round can have
+abbrev pub IsSmall : Run → Type 0
+IsSmall run = (run.bits ≤ 65536) × (run.r.0 < 2 ^ 64)

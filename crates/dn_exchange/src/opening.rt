@@ -1,7 +1,7 @@
 // How a server opens a round.
-ghost use Rattle.std.specs.Prelude.{◌≡◌, ◌<◌, ◌≤◌, ◌+◌, ◌↔◌, false, length, IfOk, IsTrue};
+ghost use Rattle.std.specs.Prelude.{◌≡◌, ◌<◌, ◌≤◌, ◌+◌, ◌↔◌, ◌⊎◌, ◌^◌, false, length, IfOk, IsTrue};
 ghost use Rattle.dn_lms.specs.Key.{leaf_count};
-ghost use Rattle.dn_exchange.specs.Opening.{Opens, IsOld, fresh_run, expected_at};
+ghost use Rattle.dn_exchange.specs.Opening.{Opens, IsOld, fresh_run, expected_at, IsSmall};
 ghost use Rattle.dn_server.specs.Parts.{live};
 
 use dn_memory::NoMemory;
@@ -37,14 +37,15 @@ fn opened_run(
     alloc: Global,
     clients: u32,
     expected: u32,
-    r: Round,
+    r: u64,
     prev: Round,
     bits: u32,
 ) -> Result<Run, NoMemory>
-    ensures { IfOk result (λ run. run ≡ fresh_run clients expected r prev bits) }
+    ensures value { IfOk result (λ run. run ≡ fresh_run clients expected record { 0 = r } prev bits) }
+    ensures small { IfOk result (λ run. run.r.0 < 2 ^ 64) }
 {
     Ok(Run {
-        r,
+        r: Round(r),
         prev,
         bits,
         is_running: true,
@@ -61,7 +62,8 @@ fn open(parts: &mut Parts, r: Round) -> Result<Answer, NoMemory>
     requires new { ¬ IsOld (live parts.old) r }
     requires idle { parts.old.run.is_running ≡ false }
     requires leaves { 4 + length parts.old.identity.signed ≤ leaf_count parts.old.identity.key }
-    ensures { IfOk result (λ a. Opens (live parts.old) r a (live parts.new)) }
+    ensures opens { IfOk result (λ a. Opens (live parts.old) r a (live parts.new)) }
+    ensures few { IfOk result (λ _. IsSmall parts.new.run) }
 {
     let prev = parts.chain.latest_below(r);
     let Some(layout) = parts.chain.layout(prev) else {
@@ -70,14 +72,15 @@ fn open(parts: &mut Parts, r: Round) -> Result<Answer, NoMemory>
     let roster = parts.identity.roster();
     let (clients, servers) = (roster.clients(), roster.servers());
     let expected = expected_at(clients, servers, parts.identity.number().0);
-    parts.run = opened_run(parts.alloc, clients, expected, r, prev, layout.bits())?;
+    parts.run = opened_run(parts.alloc, clients, expected, r.0, prev, layout.bits())?;
     parts.aside = 4;
     does_one(parts.alloc, Act::Opened { r, prev })
 }
 
 /// Opens round `r` on the greatest round below it that is held.
 pub(crate) fn open_round(parts: &mut Parts, r: Round) -> Result<Answer, NoMemory>
-    ensures { IfOk result (λ a. Opens (live parts.old) r a (live parts.new)) }
+    ensures opens { IfOk result (λ a. Opens (live parts.old) r a (live parts.new)) }
+    ensures few { IfOk result (λ _. (parts.new.run ≡ parts.old.run) ⊎ IsSmall parts.new.run) }
 {
     if is_old(parts, r) {
         return Ok(Answer::Ignored(Reason::Old));

@@ -8,8 +8,8 @@ use Rattle.dn_exchange.specs.Opening.{fresh_run, expected_at}
 use Rattle.dn_exchange.specs.Opening.Opens.{opens}
 use Rattle.dn_exchange.proofs.opening.open.Goals as goal
 
-pub returns : goal.returns
-returns c =
+pub returns-clause-opens : goal.returns-clause-opens
+returns-clause-opens c =
     let p = c.args.parts.now in
     let v : ServerView = live p in
     let r = c.args.r in
@@ -21,5 +21,5 @@ returns c =
     let with_run : Run → ServerView = λ x. record v { aside = 4; run = x } in
     IfOk-weaker c.does_one.result _ _
     (λ a is. opens prev c.in-Some.layout.now c.requires.new c.requires.idle (omega (arith, c.requires.leaves)) c.latest_below-prev.ensures.latest c.in-Some.ensures.layout is
-        (ap with_run (c.in_ok-parts.ensures ∙ (λ i. fresh_run (clients i) (expected i) r prev (c.bits.ensures.bits i)))))
+        (ap with_run (c.in_ok-parts.ensures.value ∙ (λ i. fresh_run (clients i) (expected i) r prev (c.bits.ensures.bits i)))))
     c.does_one.ensures
