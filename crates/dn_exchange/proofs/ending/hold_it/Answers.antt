@@ -3,7 +3,7 @@ use Rattle.std.proofs.lemmas.Result.{IfOk-weaker}
 use Rattle.dn_cert.specs.Chain.{ChainView}
 use Rattle.dn_exchange.specs.Ending.{HoldsOn}
 use Rattle.dn_server.specs.Parts.{live}
-use Rattle.dn_exchange.proofs.ending.hold.Goals as goal
+use Rattle.dn_exchange.proofs.ending.hold_it.Goals as goal
 
 pub returns-in-Err : goal.returns-in-Err
 returns-in-Err c =
