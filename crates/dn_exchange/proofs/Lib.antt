@@ -5,3 +5,5 @@ pub mod EndSound
 pub mod FirstSound
 pub mod ClaimSound
 pub mod HoldSound
+pub mod ReadyLemmas
+pub mod KeptSound
