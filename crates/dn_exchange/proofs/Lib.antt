@@ -7,3 +7,4 @@ pub mod ClaimSound
 pub mod HoldSound
 pub mod ReadyLemmas
 pub mod KeptSound
+pub mod StepSound

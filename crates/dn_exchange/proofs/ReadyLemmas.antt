@@ -133,7 +133,7 @@ module _ (v : ServerView) (sound : IsSound v) (running : IsRunning (standing_of 
         digest = least.entry.3;
       }
 
-  client_within : (l : Listed) → Contains listed l → l.client.0 < length v.seat.roster.clients
+  pub client_within : (l : Listed) → Contains listed l → l.client.0 < length v.seat.roster.clients
   client_within l c =
       let e = entered l c in
       let all = running.inventories l.server.0 e.inventory e.kept in
@@ -141,11 +141,11 @@ module _ (v : ServerView) (sound : IsSound v) (running : IsRunning (standing_of 
       let within = slice_get_within v.seat.roster.clients e.entry.client.0 verifies.0 verifies.1 in
       subst (λ (i : ClientId). i.0 < length v.seat.roster.clients) e.client within
 
-  clients_within : All (λ (l : Listed). l.client.0 < length v.seat.roster.clients) listed
+  pub clients_within : All (λ (l : Listed). l.client.0 < length v.seat.roster.clients) listed
   clients_within =
       All-weaker (Contains listed) (λ (l : Listed). l.client.0 < length v.seat.roster.clients) (λ l c. client_within l c) listed (All-contains_itself listed)
 
-  few_listed : length listed ≤ 512
+  pub few_listed : length listed ≤ 512
   few_listed =
       let few = listed_few listed (length v.seat.roster.clients) listing.trim.ascends clients_within in
       let clients = sound.seated.roster.clients in
@@ -167,7 +167,7 @@ module _ (v : ServerView) (sound : IsSound v) (running : IsRunning (standing_of 
       let low_server : l.server.0 < 2 ^ 32 = omega (arith, servers.1, listing.kept.each) in
       (low, (low_server, long))
 
-  rows_fit : AllByRecursion (FitsRow listed_row) listed
+  pub rows_fit : AllByRecursion (FitsRow listed_row) listed
   rows_fit = by_recursion (FitsRow listed_row) listed (All-weaker (Contains listed) (FitsRow listed_row) (λ l c. row_fits l c) listed (All-contains_itself listed))
 
   -- a row that the list gives to the server is a claim that was told Included
@@ -217,13 +217,13 @@ body_fits version r prev thin listed digests out known round before is few up ro
     (known, (round, (before, (is, ((few, up, rows), ((few_digests, each), long))))))
 
 module _ (v : ServerView) (sound : IsSound v) (running : IsRunning (standing_of v)) where
-  low_number : v.seat.number < 2 ^ 32
+  pub low_number : v.seat.number < 2 ^ 32
   low_number = let servers = sound.seated.roster.servers in omega (arith, sound.seated.number, servers.1)
 
   before : v.run.prev.0 < 2 ^ 64
   before = omega (arith, running.course.before, running.course.small)
 
-  thin_fits : (b : Body) → IsThinDue v b → CanSign (server v.seat.number) (kinds.Sign b)
+  pub thin_fits : (b : Body) → IsThinDue v b → CanSign (server v.seat.number) (kinds.Sign b)
   thin_fits b due =
       let parts = and_parts (v.seat.roster.version == 2) (nat_lt (100 * length due.listed) (95 * count_at v.chain v.run.prev.0)) due.listing.floor in
       let two : v.seat.roster.version ≡ 2 = eqb-true v.seat.roster.version 2 parts.0 in
@@ -233,7 +233,7 @@ module _ (v : ServerView) (sound : IsSound v) (running : IsRunning (standing_of 
       subst (λ (x : Body). CanSign (server v.seat.number) (kinds.Sign x)) (sym due.is)
       (can_sign (server v.seat.number) (kinds.Sign record { version = v.seat.roster.version; r = v.run.r; prev = v.run.prev; thin = true; listed = due.listed; digests = []; out = [] }) low_number fits tt)
 
-  full_fits : HasCommitted (standing_of v) → (sum : Sum) (b : Body) → IsBodyDue v sum b → CanSign (server v.seat.number) (kinds.Sign b)
+  pub full_fits : HasCommitted (standing_of v) → (sum : Sum) (b : Body) → IsBodyDue v sum b → CanSign (server v.seat.number) (kinds.Sign b)
   full_fits has sum b due =
       let servers = sound.seated.roster.servers in
       let same : has.sum ≡ sum = same_Some has.sum sum (sym has.has ∙ due.has) in
