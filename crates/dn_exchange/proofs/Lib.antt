@@ -8,3 +8,5 @@ pub mod HoldSound
 pub mod ReadyLemmas
 pub mod KeptSound
 pub mod StepSound
+pub mod SteadyLemmas
+pub mod HearSound
