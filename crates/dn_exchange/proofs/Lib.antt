@@ -10,3 +10,5 @@ pub mod KeptSound
 pub mod StepSound
 pub mod SteadyLemmas
 pub mod HearSound
+pub mod ListSound
+pub mod CloseSound
