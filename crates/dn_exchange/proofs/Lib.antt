@@ -12,3 +12,4 @@ pub mod SteadyLemmas
 pub mod HearSound
 pub mod ListSound
 pub mod CloseSound
+pub mod CallsSound

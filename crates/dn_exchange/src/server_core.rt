@@ -98,6 +98,36 @@ impl ServerCore {
         Ok(answer)
     }
 
+    /// Counts a tick of time, which may close the window.
+    pub fn tick<R: Threads + Sync>(&mut self, rt: &R) -> Result<Answer, NoMemory>
+        ensures answer { IfOk result (λ a. Ticks self.old a self.new) }
+        ensures spent { OnErr result (self.new.spent ≡ true) }
+        ensures stays_spent { self.old.spent ≡ true → IsErr result }
+    {
+        if self.is_spent {
+            return Err(NoMemory);
+        }
+        self.is_spent = true;
+        let answer = tick(rt, &mut self.parts)?;
+        self.is_spent = false;
+        Ok(answer)
+    }
+
+    /// Closes the window.
+    pub fn close<R: Threads + Sync>(&mut self, rt: &R) -> Result<Answer, NoMemory>
+        ensures answer { IfOk result (λ a. Shuts self.old a self.new) }
+        ensures spent { OnErr result (self.new.spent ≡ true) }
+        ensures stays_spent { self.old.spent ≡ true → IsErr result }
+    {
+        if self.is_spent {
+            return Err(NoMemory);
+        }
+        self.is_spent = true;
+        let answer = close(rt, &mut self.parts)?;
+        self.is_spent = false;
+        Ok(answer)
+    }
+
     /// Takes a certificate, which ends the run of its round.
     pub fn hold(&mut self, c: &Certificate) -> Result<Answer, NoMemory>
         requires { IsCertificateUnder self.old.seat.roster c.now }
