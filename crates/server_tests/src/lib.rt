@@ -1,0 +1,7 @@
+//! Tests of servers, called by hand.
+#![tactic(auto)]
+
+#[cfg(test)]
+mod alone;
+#[cfg(test)]
+mod words;

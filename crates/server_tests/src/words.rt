@@ -1,0 +1,47 @@
+// What servers answer, in words that can be compared.
+use dn_memory::NoMemory;
+use dn_server::{Act, Answer, Reason};
+use std::alloc::Global;
+
+/// An answer, or one act of it.
+#[derive(Clone, Copy, Debug, PartialEq, Eq)]
+pub enum Word {
+    Opened,
+    Told,
+    Closed,
+    Post,
+    Spoiled,
+    Certified,
+    Held,
+    Abandoned,
+    Ignored(Reason),
+    Early,
+}
+
+fn word_of(act: &Act) -> Word {
+    match act {
+        Act::Opened { .. } => Word::Opened,
+        Act::Told { .. } => Word::Told,
+        Act::Closed { .. } => Word::Closed,
+        Act::Post { .. } => Word::Post,
+        Act::Spoiled { .. } => Word::Spoiled,
+        Act::Certified(_) => Word::Certified,
+        Act::Held { .. } => Word::Held,
+        Act::Abandoned => Word::Abandoned,
+    }
+}
+
+/// The words of an answer.
+pub fn words(alloc: Global, answer: &Answer) -> Result<Vec<Word>, NoMemory> {
+    let mut words = Vec::new(alloc);
+    match answer {
+        Answer::Acts(acts) => {
+            for act in acts.get() {
+                words.push(word_of(act))?;
+            }
+        }
+        Answer::Ignored(reason) => words.push(Word::Ignored(*reason))?,
+        Answer::Early => words.push(Word::Early)?,
+    }
+    Ok(words)
+}
