@@ -1,0 +1,5 @@
+pub mod Evidence
+pub mod Challenging
+pub mod Accusing
+pub mod Hearing
+pub mod Open

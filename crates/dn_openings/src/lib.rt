@@ -1,0 +1,10 @@
+//! What a server does where a slot's owner accuses: it opens its pads, keeps the openings of others, and challenges clients.
+//!
+//! `hear` takes what was said by others than servers in a round that runs: accusations, openings of servers, and answers of clients. Its
+//! contract is exact: `specs/Hearing.antt` says what a server answers to each and what it is afterwards, `specs/Accusing.antt` when and
+//! how it opens a place, and `specs/Challenging.antt` whom it challenges. Servers are seen as in the crate of what servers share.
+#![tactic(auto)]
+
+mod keeping;
+
+pub use keeping::is_said;
