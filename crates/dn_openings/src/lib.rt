@@ -6,5 +6,6 @@
 #![tactic(auto)]
 
 mod keeping;
+mod looking;
 
 pub use keeping::is_said;
