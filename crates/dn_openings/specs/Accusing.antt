@@ -89,15 +89,16 @@ pub data Opens (v : ServerView) (b : Body) (past : Past) (k : ℕ) (did : List A
 
 -- ---- what is answered
 
--- the server holds this body of round r, and signed it
-pub record IsSignedBody (v : ServerView) (r : Round) (b : Body) : Type 0 where
+-- The server holds this body of round r, and signed it: it keeps its ciphertexts of that body.
+pub record HasSigned (v : ServerView) (r : Round) (b : Body) (past : Past) : Type 0 where
   pub held : Contains (bodies v.chain) b
   pub round : b.r ≡ r
-  pub signed : Contains v.signed (kinds.Sign b)
+  pub kept : past_of v.pasts r.0 ≡ Some past
+  pub of_body : past.body ≡ b
 
--- the body of the accusation's round, and the layout on which that ran
-pub record IsAccused (v : ServerView) (r : Round) (b : Body) (layout : List ℕ) : Type 0 where
-  pub body : IsSignedBody v r b
+-- the body of round r, which the server signed, and the layout on which the round ran
+pub record IsAccused (v : ServerView) (r : Round) (b : Body) (past : Past) (layout : List ℕ) : Type 0 where
+  pub body : HasSigned v r b past
   pub after : IsLayoutAfter v.chain b.prev.0 layout
 
 abbrev pub reason_for : Invalid → Reason
@@ -110,14 +111,15 @@ place_of valid = record { r = valid.r; k = valid.k }
 
 -- An accusation of round r comes: the first of these that is so.
 pub data Accuses (v : ServerView) (r : Round) (said : SaidView) (answer : Answer) (after : ServerView) : Type 0 where
-  not_signed : ((b : Body) → ¬ IsSignedBody v r b) → answer ≡ ignored reasons.Body → after ≡ v → Accuses v r said answer after
-  not_valid : (b : Body) (layout : List ℕ) (why : Invalid) → IsAccused v r b layout → IsInvalid layout b said.signer said.statement why
-      → answer ≡ ignored (reason_for why) → after ≡ v → Accuses v r said answer after
-  is_opened : (b : Body) (layout : List ℕ) (valid : Valid) → IsAccused v r b layout → IsValid layout b said.signer said.statement valid
-      → Contains v.opened (place_of valid) → answer ≡ ignored reasons.Repeat → after ≡ v → Accuses v r said answer after
-  is_spent : (b : Body) (layout : List ℕ) (valid : Valid) → IsAccused v r b layout → IsValid layout b said.signer said.statement valid
-      → ¬ Contains v.opened (place_of valid) → left_of v - v.aside < leaves_due v r
+  not_signed : ((b : Body) (past : Past) → ¬ HasSigned v r b past) → answer ≡ ignored reasons.Body → after ≡ v → Accuses v r said answer after
+  not_valid : (b : Body) (past : Past) (layout : List ℕ) (why : Invalid) → IsAccused v r b past layout
+      → IsInvalid layout b said.signer said.statement why → answer ≡ ignored (reason_for why) → after ≡ v → Accuses v r said answer after
+  is_opened : (b : Body) (past : Past) (layout : List ℕ) (valid : Valid) → IsAccused v r b past layout
+      → IsValid layout b said.signer said.statement valid → Contains v.opened (place_of valid)
+      → answer ≡ ignored reasons.Repeat → after ≡ v → Accuses v r said answer after
+  is_spent : (b : Body) (past : Past) (layout : List ℕ) (valid : Valid) → IsAccused v r b past layout
+      → IsValid layout b said.signer said.statement valid → ¬ Contains v.opened (place_of valid) → left_of v - v.aside < leaves_due v r
       → answer ≡ ignored reasons.Spent → after ≡ v → Accuses v r said answer after
-  opens : (b : Body) (layout : List ℕ) (valid : Valid) (past : Past) (did : List Act) → IsAccused v r b layout
+  opens : (b : Body) (past : Past) (layout : List ℕ) (valid : Valid) (did : List Act) → IsAccused v r b past layout
       → IsValid layout b said.signer said.statement valid → ¬ Contains v.opened (place_of valid) → leaves_due v r ≤ left_of v - v.aside
-      → past_of v.pasts r.0 ≡ Some past → Opens v b past valid.k did after → answer ≡ does did → Accuses v r said answer after
+      → Opens v b past valid.k did after → answer ≡ does did → Accuses v r said answer after

@@ -44,26 +44,24 @@ pub record AreChallenged (trial : Trial) (to : List Member) : Type 0 where
 abbrev pub AreDue : Trial → List Member → Type 0
 AreDue trial to = (NamesNone trial × AreChallenged trial to) ⊎ ((¬ NamesNone trial) × (to ≡ []))
 
--- one post with the servers' pad bits to those who are challenged, and none where nobody is
-abbrev pub challenge_to : List Member → Place → List (List ℕ) → List Act
-challenge_to [] place envelopes = []
-challenge_to (i ∷ to) place envelopes = acts.Post (i ∷ to) (payload_bytes (payloads.Challenge place.r place.k envelopes)) ∷ []
-
 -- the server has looked for clients to challenge at the place
 abbrev pub with_looked : ServerView → Place → ServerView
 with_looked v place = record v { challenged = v.challenged ++ place ∷ [] }
 
 -- A server looks for clients to challenge at a place that it opened. It does so once, as soon as all servers have opened the place. Where the
--- openings alone show a server to be at fault, it challenges nobody, then or later.
+-- openings alone show a server to be at fault, it challenges nobody, then or later. One post goes to all who are challenged.
 pub data LooksAt (v : ServerView) (place : Place) (did : List Act) (after : ServerView) : Type 0 where
   has_looked : Contains v.challenged place → did ≡ [] → after ≡ v → LooksAt v place did after
   waits : (trial : Trial) → ¬ Contains v.challenged place → IsTrialAt v place trial → ¬ IsComplete trial
       → did ≡ [] → after ≡ v → LooksAt v place did after
   finds_fault : (trial : Trial) → ¬ Contains v.challenged place → IsTrialAt v place trial → IsComplete trial → ¬ NamesNone trial
       → did ≡ [] → after ≡ with_looked v place → LooksAt v place did after
-  challenges : (trial : Trial) (to : List Member) (envelopes : List (List ℕ)) → ¬ Contains v.challenged place → IsTrialAt v place trial
-      → IsComplete trial → NamesNone trial → AreChallenged trial to → AreEnvelopes trial.given place (servers_in v) envelopes
-      → did ≡ challenge_to to place envelopes → after ≡ with_looked v place → LooksAt v place did after
+  finds_nobody : (trial : Trial) → ¬ Contains v.challenged place → IsTrialAt v place trial → IsComplete trial → NamesNone trial → AreChallenged trial []
+      → did ≡ [] → after ≡ with_looked v place → LooksAt v place did after
+  challenges : (trial : Trial) (first : Member) (others : List Member) (envelopes : List (List ℕ)) → ¬ Contains v.challenged place
+      → IsTrialAt v place trial → IsComplete trial → NamesNone trial → AreChallenged trial (first ∷ others)
+      → AreEnvelopes v.evidence place (servers_in v) envelopes → did ≡ acts.Post (first ∷ others) (payload_bytes (payloads.Challenge place.r place.k envelopes)) ∷ []
+      → after ≡ with_looked v place → LooksAt v place did after
 
 -- the server looks at these places, one after the other
 pub data LooksAtAll (v : ServerView) : List Place → List Act → ServerView → Type 0 where
@@ -71,6 +69,10 @@ pub data LooksAtAll (v : ServerView) : List Place → List Act → ServerView �
   more : {places : List Place} {did : List Act} {after : ServerView} (place : Place) (others : List Place) (first rest : List Act) (between : ServerView)
       → places ≡ others ++ place ∷ [] → LooksAtAll v others first between → LooksAt between place rest after → did ≡ first ++ rest
       → LooksAtAll v places did after
+
+-- whom the server challenges at the place, all having opened it
+abbrev pub AreDueAt : ServerView → Place → List Member → Type 0
+AreDueAt v place to = (trial : Trial) × IsTrialAt v place trial × IsComplete trial × AreDue trial to
 
 -- the server looks at the place, and this is done besides
 abbrev pub LooksOn : ServerView → Place → List Act → List Act → ServerView → Type 0

@@ -1,6 +1,7 @@
 -- Openings of servers, and answers of clients, as a server keeps them.
 use Rattle.std.specs.Prelude.{◌≡◌, ℕ, ◌<◌, ◌==◌, ◌&&◌, Bool, false, List, [], ◌∷◌, ◌++◌, filter, find, length, map, Option, Some, slice_get}
 use Rattle.dn_wire.specs.declared.ids.Round.{Round}
+use Rattle.dn_bits.specs.Bits.{below}
 use Rattle.dn_record_types.specs.declared.statement.Statement.{Statement}
 use Rattle.dn_record_types.specs.declared.statement.Statement.TheVariants as kinds
 use Rattle.dn_record_types.specs.declared.shown.ShownCipher.{ShownCipher}
@@ -54,11 +55,10 @@ openings_of evidence place = filter (λ x. is_opening place.r place.k x.statemen
 abbrev pub pad_by : List SaidView → Place → ℕ → Option SaidView
 pad_by evidence place j = find (λ x. is_server j x.signer && is_pad place.r place.k x.statement) evidence
 
--- the envelopes of the first pad bits of the place that are kept of n servers, by server
+-- the envelopes of the first pad bits of the place that are kept of each of n servers, by server
 pub record AreEnvelopes (evidence : List SaidView) (place : Place) (n : ℕ) (envelopes : List (List ℕ)) : Type 0 where
   pub pads : List SaidView
-  pub each : length pads ≡ n
-  pub kept : (j : ℕ) (x : SaidView) → slice_get pads j ≡ Some x → pad_by evidence place j ≡ Some x
+  pub each : map (λ x. Some x) pads ≡ map (pad_by evidence place) (below n)
   pub spelled : envelopes ≡ map (λ x. x.bytes) pads
 
 -- the server keeps one statement more

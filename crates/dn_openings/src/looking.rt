@@ -1,11 +1,13 @@
 // Whom a server challenges.
-ghost use Rattle.std.specs.Prelude.{◌≡◌, ◌<◌, ◌^◌, ◌++◌, ℕ, List, [], true, length, All, Contains, IfOk, OnOk};
+ghost use Rattle.std.specs.Prelude.{◌≡◌, ◌<◌, ◌^◌, ◌++◌, ◌∷◌, ◌≤◌, ◌≢◌, ℕ, List, [], true, length, All, Contains, IfOk, OnOk};
+ghost use Rattle.dn_records.specs.Records.{payload_bytes};
+ghost use Rattle.dn_record_types.specs.declared.payload.Payload.TheVariants as payloads;
 ghost use Rattle.dn_layout.specs.Layout.{bits_of};
 ghost use Rattle.dn_seal.specs.Said.{IsUnder};
 ghost use Rattle.dn_trace.specs.Trial.{Trial};
 ghost use Rattle.dn_server.specs.Parts.{live};
 ghost use Rattle.dn_openings.specs.Evidence.{is_opening, AreEnvelopes, HasOpened};
-ghost use Rattle.dn_openings.specs.Challenging.{IsComplete, AreDue, CanLook, LooksOn, LooksOnAll, challenge_to};
+ghost use Rattle.dn_openings.specs.Challenging.{IsComplete, AreDue, AreDueAt, CanLook, LooksOn};
 
 use crate::keeping::{all_opened, first_pad, is_among, openings_of};
 use dn_cert::{Rules, Valid};
@@ -51,4 +53,96 @@ fn due<R: Rules>(
     } else {
         Ok(MemberList::of(Vec::new(alloc)))
     }
+}
+
+/// Whom the server challenges at a place that all have opened.
+fn due_at<R: Rules>(
+    alloc: Global,
+    rules: &R,
+    parts: &Parts,
+    place: Place,
+) -> Result<MemberList, NoMemory>
+    requires can { CanLook (live parts.now) place }
+    requires complete { (j : ℕ) → j < length parts.now.identity.roster.servers → HasOpened parts.now.evidence place j }
+    ensures { IfOk result (AreDueAt (live parts.now) place) }
+{
+    let Some(body) = parts.chain.body(place.r) else {
+        unreachable!()
+    };
+    let Some(layout) = parts.chain.layout(body.prev) else {
+        unreachable!()
+    };
+    let given = openings_of(alloc, parts.evidence.get(), place)?;
+    due(alloc, rules, parts.identity.roster(), body, layout, place, &given)
+}
+
+/// The envelopes of the first pad bits of the place of each of `n` servers, which all have opened it.
+fn envelopes(
+    alloc: Global,
+    kept: &[Said],
+    place: Place,
+    n: u32,
+) -> Result<Vec<Bytes>, NoMemory>
+    requires { (j : ℕ) → j < n → HasOpened kept.now place j }
+    ensures envelopes { IfOk result (λ v. AreEnvelopes kept.now place n v.items) }
+    ensures count { IfOk result (λ v. length v.items ≡ n) }
+    ensures short { IfOk result (λ v. All (λ e. length e < 2 ^ 32) v.items) }
+{
+    let mut list = Vec::new(alloc);
+    for j in 0..n {
+        let Some(pad) = first_pad(kept, place, ServerId(j)) else {
+            unreachable!()
+        };
+        list.push(Bytes::of(Vec::from_slice(alloc, pad.bytes())?))?;
+    }
+    Ok(list)
+}
+
+/// Posts a challenge to these clients.
+fn post_challenge(
+    alloc: Global,
+    acts: &mut Vec<Act>,
+    to: MemberList,
+    place: Place,
+    envelopes: Vec<Bytes>,
+) -> Result<(), NoMemory>
+    requires few { length envelopes.items ≤ 16 }
+    requires short { All (λ e. length e < 2 ^ 32) envelopes.items }
+    ensures { OnOk result (acts.new.items ≡ acts.old.items ++ Act.Post to (payload_bytes (payloads.Challenge place.r place.k envelopes.items)) ∷ []) }
+{
+    let payload = Payload::Challenge {
+        r: place.r,
+        k: place.k,
+        envelopes: ByteLists::of(envelopes),
+    };
+    let payload = Bytes::of(encode_payload(alloc, &payload)?);
+    acts.push(Act::Post { to, payload })?;
+    Ok(())
+}
+
+/// Looks for clients to challenge at a place that the server opened, where all have opened it and it hasn't looked there before.
+pub(crate) fn look_at<R: Rules>(
+    rules: &R,
+    parts: &mut Parts,
+    acts: &mut Vec<Act>,
+    place: Place,
+) -> Result<(), NoMemory>
+    requires { CanLook (live parts.old) place }
+    ensures { OnOk result (LooksOn (live parts.old) place acts.old.items acts.new.items (live parts.new)) }
+{
+    let alloc = parts.alloc;
+    let n = parts.identity.roster().servers();
+    if is_among(parts.challenged.get(), place) {
+        return Ok(());
+    }
+    if !all_opened(parts.evidence.get(), place, n) {
+        return Ok(());
+    }
+    let to = due_at(alloc, rules, parts, place)?;
+    if !to.get().is_empty() {
+        let envelopes = envelopes(alloc, parts.evidence.get(), place, n)?;
+        post_challenge(alloc, acts, to, place, envelopes)?;
+    }
+    parts.challenged.push(place)?;
+    Ok(())
 }
