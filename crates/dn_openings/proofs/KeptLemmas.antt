@@ -1,5 +1,5 @@
 -- What is kept, and what of it opens a place.
-use Rattle.std.proofs.Common.{◌≡◌, ℕ, ◌<◌, Bool, true, false, List, refl, sym, ap, ◌∙◌, subst, arith, get_or, length, inl, inr}
+use Rattle.std.proofs.Common.{◌≡◌, ℕ, ◌+◌, ◌<◌, ◌≤◌, ◌^◌, [], ◌∷◌, ◌++◌, map, Bool, true, false, List, refl, sym, ap, ◌∙◌, subst, arith, get_or, length, inl, inr}
 use Rattle.std.specs.Prelude.{Contains, find, ◌&&◌, ◌==◌, ◌⊎◌, Some, None, MatchOption, Option, filter}
 use Rattle.std.proofs.lemmas.Bool.{eqb-true, eq-eqb, false≢true, and_parts}
 use Rattle.std.proofs.lemmas.Option.{none-some}
@@ -10,12 +10,17 @@ use Rattle.dn_record_types.specs.declared.shown.ShownCipher.{ShownCipher}
 use Rattle.dn_record_types.specs.declared.statement.Statement.{Statement}
 use Rattle.dn_record_types.specs.declared.statement.Statement.TheVariants as kinds
 use Rattle.dn_seal.specs.Dealt.{server}
-use Rattle.dn_seal.specs.Said.{SaidView}
+use Rattle.dn_seal.specs.Said.{SaidView, IsSaid}
+use Rattle.dn_seal.specs.Sizes.{HasShortSignatures, most_bytes, longest_signature, longest_bits}
+use Rattle.dn_seal.proofs.SizeLemmas.{said_few}
+use Rattle.std.proofs.lemmas.List.{map-append}
+use Rattle.dn_bits.specs.Bits.{below}
+use Rattle.dn_bits.proofs.SumLemmas.{below_more}
 use Rattle.dn_trace.specs.Trial.{Says}
 use Rattle.dn_trace.proofs.HeardLemmas.{found, finds}
 use Rattle.dn_server.specs.declared.places.Place.{Place}
 use Rattle.dn_server.specs.Server.{is_server}
-use Rattle.dn_openings.specs.Evidence.{is_pad, is_opening, pad_by, HasOpened}
+use Rattle.dn_openings.specs.Evidence.{is_pad, is_opening, pad_by, HasOpened, AreEnvelopes}
 
 pub server_is : (j : ℕ) (who : SignerId) → is_server j who ≡ true → who ≡ server j
 server_is j (signers.Client i) h = absurd (false≢true h)
@@ -66,3 +71,25 @@ pad_none kept place j e pad says =
         (ap (is_pad place.r place.k) says.3 ∙ is_its_pad place.r place.k pad) in
     let first = finds (test_of place j) kept says.1.0 x says.1.1 (ap (test_of place j) says.1.2 ∙ passes) in
     none-some first.0 (sym e ∙ first.1)
+
+-- one server's envelope more
+pub envelopes_more : (kept : List SaidView) (place : Place) (n : ℕ) (es : List (List ℕ)) (x : SaidView) → AreEnvelopes kept place n es → pad_by kept place n ≡ Some x
+    → AreEnvelopes kept place (n + 1) (es ++ x.bytes ∷ [])
+envelopes_more kept place n es x are found_x = record {
+  pads = are.pads ++ x ∷ [];
+  each =
+    map-append (λ y. Some y) are.pads (x ∷ [])
+    ∙ ap (λ l. l ++ Some x ∷ []) are.each
+    ∙ ap (λ o. map (pad_by kept place) (below n) ++ o ∷ []) (sym found_x)
+    ∙ sym (map-append (pad_by kept place) (below n) (n ∷ []))
+    ∙ ap (map (pad_by kept place)) (sym (below_more n));
+  spelled = ap (λ l. l ++ x.bytes ∷ []) are.spelled ∙ sym (map-append (λ y. y.bytes) are.pads (x ∷ []));
+}
+
+-- pad bits fit behind four bytes
+pub short_pad : (x : SaidView) (r : Round) (k : ℕ) (pad : List Bool) → IsSaid x → x.statement ≡ kinds.PadBits r k pad → length x.bytes < 2 ^ 32
+short_pad x r k pad is e =
+    let short : HasShortSignatures x.statement = subst HasShortSignatures (sym e) tt in
+    let few : length x.bytes ≤ 9 + most_bytes x.statement + longest_signature = said_few x is short in
+    let most : most_bytes x.statement ≡ 1 + 8 + 4 + longest_bits = ap most_bytes e in
+    omega arith

@@ -1,5 +1,5 @@
 -- What a server needs to look at a place.
-use Rattle.std.proofs.Common.{◌≡◌, ◌≢◌, ℕ, ◌<◌, Bool, true, false, List, refl, sym, ap, ◌∙◌, subst, arith, length, cond}
+use Rattle.std.proofs.Common.{◌≡◌, ◌≢◌, ℕ, ◌<◌, Bool, true, false, List, refl, sym, ap, ◌∙◌, subst, arith, length, cond, [], ◌∷◌, inl, inr}
 use Rattle.std.specs.Prelude.{Contains, All, ◌↔◌}
 use Rattle.std.proofs.lemmas.List.Elements.{All-filter}
 use Rattle.dn_record_types.specs.declared.body.Body.{Body}
@@ -13,8 +13,10 @@ use Rattle.dn_cert.specs.Certificate.{IsOfRoster}
 use Rattle.dn_cert.specs.Chain.{ChainView, bodies, Holds, IsChain, IsLayoutAfter, bits_due}
 use Rattle.dn_cert.proofs.ChainLemmas.{one_body, has_layout, layout_is_one_lem}
 use Rattle.dn_server.specs.declared.places.Place.{Place}
-use Rattle.dn_server.specs.Server.{ServerView}
-use Rattle.dn_openings.specs.Challenging.{CanLook, IsTrialAt, IsComplete}
+use Rattle.dn_server.specs.Server.{ServerView, servers_in}
+use Rattle.dn_server.specs.declared.act.Act.{Act}
+use Rattle.dn_wire.specs.declared.ids.Member.{Member}
+use Rattle.dn_openings.specs.Challenging.{CanLook, IsTrialAt, IsComplete, AllOpened, AreDueAt, IsCall, LooksAt, finds_nobody, finds_fault, challenges, with_looked}
 
 -- what a body and its layout have, where the server can look at the place
 pub record IsLooked (v : ServerView) (place : Place) (b : Body) (layout : List ℕ) : Type 0 where
@@ -84,3 +86,15 @@ module _ (v : ServerView) (place : Place) (can : CanLook v place) (chain : IsCha
 
     pub is_trial : IsTrialAt v place trial
     is_trial = record { roster = same; held = held; round = round; after = after; at = refl; given = are }
+
+-- what is done and what the server is then, where all have opened
+pub calls : (v : ServerView) (place : Place) (to : List Member) (did : List Act) → ¬ Contains v.challenged place → AllOpened v place → AreDueAt v place to
+    → IsCall v.evidence place (servers_in v) to did → LooksAt v place did (with_looked v place)
+calls v place [] did new all due call = elim due.2 [
+  | inl named ↦ finds_nobody due.0 new all due.1 named.0 named.1 call refl
+  | inr fault ↦ finds_fault due.0 new all due.1 fault.0 call refl
+]
+calls v place (first ∷ others) did new all due call = elim due.2 [
+  | inl named ↦ challenges due.0 first others call.0 new all due.1 named.0 named.1 call.1 call.2 refl
+  | inr fault ↦ cc
+]

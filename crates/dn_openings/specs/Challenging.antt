@@ -5,7 +5,7 @@ use Rattle.dn_wire.specs.declared.ids.Member.TheVariants as members
 use Rattle.dn_record_types.specs.declared.payload.Payload.TheVariants as payloads
 use Rattle.dn_records.specs.Records.{payload_bytes}
 use Rattle.dn_record_types.specs.declared.body.Body.{Body}
-use Rattle.dn_seal.specs.Said.{IsUnder}
+use Rattle.dn_seal.specs.Said.{SaidView, IsUnder}
 use Rattle.dn_cert.specs.Certificate.{IsOfRoster}
 use Rattle.dn_cert.specs.Chain.{bodies, IsLayoutAfter}
 use Rattle.dn_trace.specs.Trial.{Trial, servers_of}
@@ -15,7 +15,7 @@ use Rattle.dn_server.specs.declared.act.Act.{Act}
 use Rattle.dn_server.specs.declared.act.Act.TheVariants as acts
 use Rattle.dn_server.specs.declared.places.Place.{Place}
 use Rattle.dn_server.specs.Server.{ServerView, servers_in, client_member}
-use Rattle.dn_openings.specs.Evidence.{openings_of, AreEnvelopes}
+use Rattle.dn_openings.specs.Evidence.{openings_of, AreEnvelopes, HasOpened}
 
 -- The place is judged on its openings alone: by the body of its round that the server holds, with the openings that the server keeps.
 pub record IsTrialAt (v : ServerView) (place : Place) (trial : Trial) : Type 0 where
@@ -26,7 +26,11 @@ pub record IsTrialAt (v : ServerView) (place : Place) (trial : Trial) : Type 0 w
   pub at : trial.k ≡ place.k
   pub given : trial.given ≡ openings_of v.evidence place
 
--- all servers have opened the place
+-- all servers have opened the place, by what is kept
+abbrev pub AllOpened : ServerView → Place → Type 0
+AllOpened v place = (j : ℕ) → j < servers_in v → HasOpened v.evidence place j
+
+-- all servers have opened what is judged
 abbrev pub IsComplete : Trial → Type 0
 IsComplete trial = (j : ℕ) → j < servers_of trial → IsOpened trial j
 
@@ -52,14 +56,13 @@ with_looked v place = record v { challenged = v.challenged ++ place ∷ [] }
 -- openings alone show a server to be at fault, it challenges nobody, then or later. One post goes to all who are challenged.
 pub data LooksAt (v : ServerView) (place : Place) (did : List Act) (after : ServerView) : Type 0 where
   has_looked : Contains v.challenged place → did ≡ [] → after ≡ v → LooksAt v place did after
-  waits : (trial : Trial) → ¬ Contains v.challenged place → IsTrialAt v place trial → ¬ IsComplete trial
-      → did ≡ [] → after ≡ v → LooksAt v place did after
-  finds_fault : (trial : Trial) → ¬ Contains v.challenged place → IsTrialAt v place trial → IsComplete trial → ¬ NamesNone trial
+  waits : ¬ Contains v.challenged place → ¬ AllOpened v place → did ≡ [] → after ≡ v → LooksAt v place did after
+  finds_fault : (trial : Trial) → ¬ Contains v.challenged place → AllOpened v place → IsTrialAt v place trial → ¬ NamesNone trial
       → did ≡ [] → after ≡ with_looked v place → LooksAt v place did after
-  finds_nobody : (trial : Trial) → ¬ Contains v.challenged place → IsTrialAt v place trial → IsComplete trial → NamesNone trial → AreChallenged trial []
+  finds_nobody : (trial : Trial) → ¬ Contains v.challenged place → AllOpened v place → IsTrialAt v place trial → NamesNone trial → AreChallenged trial []
       → did ≡ [] → after ≡ with_looked v place → LooksAt v place did after
   challenges : (trial : Trial) (first : Member) (others : List Member) (envelopes : List (List ℕ)) → ¬ Contains v.challenged place
-      → IsTrialAt v place trial → IsComplete trial → NamesNone trial → AreChallenged trial (first ∷ others)
+      → AllOpened v place → IsTrialAt v place trial → NamesNone trial → AreChallenged trial (first ∷ others)
       → AreEnvelopes v.evidence place (servers_in v) envelopes → did ≡ acts.Post (first ∷ others) (payload_bytes (payloads.Challenge place.r place.k envelopes)) ∷ []
       → after ≡ with_looked v place → LooksAt v place did after
 
@@ -72,7 +75,14 @@ pub data LooksAtAll (v : ServerView) : List Place → List Act → ServerView �
 
 -- whom the server challenges at the place, all having opened it
 abbrev pub AreDueAt : ServerView → Place → List Member → Type 0
-AreDueAt v place to = (trial : Trial) × IsTrialAt v place trial × IsComplete trial × AreDue trial to
+AreDueAt v place to = (trial : Trial) × IsTrialAt v place trial × AreDue trial to
+
+-- what is done where these are to be challenged
+abbrev pub IsCall : List SaidView → Place → ℕ → List Member → List Act → Type 0
+IsCall kept place n [] did = did ≡ []
+IsCall kept place n (first ∷ others) did =
+    (envelopes : List (List ℕ)) × AreEnvelopes kept place n envelopes
+    × (did ≡ acts.Post (first ∷ others) (payload_bytes (payloads.Challenge place.r place.k envelopes)) ∷ [])
 
 -- the server looks at the place, and this is done besides
 abbrev pub LooksOn : ServerView → Place → List Act → List Act → ServerView → Type 0

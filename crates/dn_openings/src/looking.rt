@@ -5,9 +5,10 @@ ghost use Rattle.dn_record_types.specs.declared.payload.Payload.TheVariants as p
 ghost use Rattle.dn_layout.specs.Layout.{bits_of};
 ghost use Rattle.dn_seal.specs.Said.{IsUnder};
 ghost use Rattle.dn_trace.specs.Trial.{Trial};
+ghost use Rattle.dn_server.specs.declared.act.Act.{Act};
 ghost use Rattle.dn_server.specs.Parts.{live};
 ghost use Rattle.dn_openings.specs.Evidence.{is_opening, AreEnvelopes, HasOpened};
-ghost use Rattle.dn_openings.specs.Challenging.{IsComplete, AreDue, AreDueAt, CanLook, LooksOn};
+ghost use Rattle.dn_openings.specs.Challenging.{IsComplete, AreDue, AreDueAt, CanLook, IsCall, LooksOn};
 
 use crate::keeping::{all_opened, first_pad, is_among, openings_of};
 use dn_cert::{Rules, Valid};
@@ -120,6 +121,26 @@ fn post_challenge(
     Ok(())
 }
 
+/// Challenges these clients, if there are any, at a place that each of `n` servers has opened.
+fn challenge(
+    alloc: Global,
+    acts: &mut Vec<Act>,
+    to: MemberList,
+    kept: &[Said],
+    place: Place,
+    n: u32,
+) -> Result<(), NoMemory>
+    requires few { n ≤ 16 }
+    requires opened { (j : ℕ) → j < n → HasOpened kept.now place j }
+    ensures { OnOk result ((did : List Act) × (acts.new.items ≡ acts.old.items ++ did) × IsCall kept.now place n to did) }
+{
+    if to.get().is_empty() {
+        return Ok(());
+    }
+    let envelopes = envelopes(alloc, kept, place, n)?;
+    post_challenge(alloc, acts, to, place, envelopes)
+}
+
 /// Looks for clients to challenge at a place that the server opened, where all have opened it and it hasn't looked there before.
 pub(crate) fn look_at<R: Rules>(
     rules: &R,
@@ -139,10 +160,7 @@ pub(crate) fn look_at<R: Rules>(
         return Ok(());
     }
     let to = due_at(alloc, rules, parts, place)?;
-    if !to.get().is_empty() {
-        let envelopes = envelopes(alloc, parts.evidence.get(), place, n)?;
-        post_challenge(alloc, acts, to, place, envelopes)?;
-    }
+    challenge(alloc, acts, to, parts.evidence.get(), place, n)?;
     parts.challenged.push(place)?;
     Ok(())
 }

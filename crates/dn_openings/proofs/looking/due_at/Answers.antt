@@ -69,5 +69,5 @@ returns g c =
         c.deref.ensures.value ∙ c.in_ok-given.ensures ∙ ap (λ l. openings_of l c.args.place) c.get.ensures in
     let tried : Trial = trial v c.args.place c.requires.can c.in-Some.ensures.chain b c.in-Some.ensures.body.0 c.in-Some.ensures.body.1 c.in-Some-layout.layout.now c.in-Some-layout.ensures.layout c.roster.result.now c.roster.ensures.value c.deref.result.now are in
     IfOk-weaker c.due.result (AreDue tried) (AreDueAt v c.args.place)
-    (λ to due. (tried, is_trial v c.args.place c.requires.can c.in-Some.ensures.chain b c.in-Some.ensures.body.0 c.in-Some.ensures.body.1 c.in-Some-layout.layout.now c.in-Some-layout.ensures.layout c.roster.result.now c.roster.ensures.value c.deref.result.now are, complete_so v c.args.place c.requires.can c.in-Some.ensures.chain b c.in-Some.ensures.body.0 c.in-Some.ensures.body.1 c.in-Some-layout.layout.now c.in-Some-layout.ensures.layout c.roster.result.now c.roster.ensures.value c.deref.result.now are c.requires.complete, due))
+    (λ to due. (tried, is_trial v c.args.place c.requires.can c.in-Some.ensures.chain b c.in-Some.ensures.body.0 c.in-Some.ensures.body.1 c.in-Some-layout.layout.now c.in-Some-layout.ensures.layout c.roster.result.now c.roster.ensures.value c.deref.result.now are, due))
     c.due.ensures
