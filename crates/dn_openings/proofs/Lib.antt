@@ -1,3 +1,4 @@
 pub mod KeptLemmas
 pub mod DueLemmas
 pub mod LookLemmas
+pub mod HearLemmas

@@ -10,12 +10,12 @@ ghost use Rattle.dn_openings.specs.Evidence.{is_pad, is_opening, openings_of, pa
 use dn_memory::NoMemory;
 use dn_records::Statement;
 use dn_seal::Said;
-use dn_server::Place;
+use dn_server::{Kept, Place};
 use dn_wire::{Round, ServerId, SignerId};
 use std::alloc::Global;
 
 /// Whether this signer's statement is among what was said.
-pub fn is_said(kept: &[Said], who: SignerId, s: &Statement) -> bool
+fn is_said(kept: &[Said], who: SignerId, s: &Statement) -> bool
     ensures { IsTrue result ↔ Says kept.now who s.now }
 {
     for said in kept {
@@ -24,6 +24,13 @@ pub fn is_said(kept: &[Said], who: SignerId, s: &Statement) -> bool
         }
     }
     false
+}
+
+/// Whether the signer's same statement is kept.
+pub(crate) fn is_kept(kept: &Kept, said: &Said) -> bool
+    ensures { IsTrue result ↔ Says kept.now said.now.signer said.now.statement }
+{
+    is_said(kept.get(), said.signer(), said.statement())
 }
 
 /// Whether the place is among these.

@@ -5,7 +5,6 @@
 //! how it opens a place, and `specs/Challenging.antt` whom it challenges. Servers are seen as in the crate of what servers share.
 #![tactic(auto)]
 
+mod hearing;
 mod keeping;
 mod looking;
-
-pub use keeping::is_said;
