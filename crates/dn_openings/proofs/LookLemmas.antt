@@ -98,3 +98,7 @@ calls v place (first ∷ others) did new all due call = elim due.2 [
   | inl named ↦ challenges due.0 first others call.0 new all due.1 named.0 named.1 call.1 call.2 refl
   | inr fault ↦ cc
 ]
+
+-- the layout before a body that is held is there
+pub has_prev : (chain : ChainView) (b : Body) → IsChain chain → Contains (bodies chain) b → ((b.prev.0 ≢ 0) × (¬ Holds chain b.prev.0)) → ⊥
+has_prev chain b is held none = let due = is.long b held in none.1 (has_layout chain b.prev.0 due.0 none.0 due.1)

@@ -72,20 +72,25 @@ with_opened v place = record v { opened = v.opened ++ place ∷ [] }
 abbrev pub post_again : ServerView → SaidView → Act
 post_again v said = acts.Post (others_of v.seat) (payload_bytes (payloads.Plain said.bytes))
 
--- The server opens place k of a body's round: it signs its pad bits and posts them, and then its ciphertexts; those that it signed before it
--- posts again. Then it looks for clients to challenge.
-pub data Opens (v : ServerView) (b : Body) (past : Past) (k : ℕ) (did : List Act) (after : ServerView) : Type 0 where
-  first_of_round : (padded shown : ServerView) (rest : List Act) → has_opened v b.r ≡ false
-      → SignsAndKeeps v (pads_at v.seat b k) padded → SignsAndKeeps padded (shown_of past) shown
-      → LooksAt (with_opened shown record { r = b.r; k = k }) record { r = b.r; k = k } rest after
-      → did ≡ (post_next v (others_of v.seat) (pads_at v.seat b k) ∷ post_next padded (others_of v.seat) (shown_of past) ∷ []) ++ rest
-      → Opens v b past k did after
-  another : (padded : ServerView) (said : SaidView) (rest : List Act) → has_opened v b.r ≡ true
-      → SignsAndKeeps v (pads_at v.seat b k) padded
-      → Contains v.evidence said → said.signer ≡ itself v → said.statement ≡ shown_of past
-      → LooksAt (with_opened padded record { r = b.r; k = k }) record { r = b.r; k = k } rest after
-      → did ≡ (post_next v (others_of v.seat) (pads_at v.seat b k) ∷ post_again v said ∷ []) ++ rest
-      → Opens v b past k did after
+-- The server shows its ciphertexts of a round: it signs and posts them, and where it has opened a place of the round before, it posts again
+-- what it signed then.
+pub data Shows (v : ServerView) (past : Past) (did : List Act) (after : ServerView) : Type 0 where
+  first_of_round : has_opened v past.body.r ≡ false → SignsAndKeeps v (shown_of past) after
+      → did ≡ post_next v (others_of v.seat) (shown_of past) ∷ [] → Shows v past did after
+  again : (said : SaidView) → has_opened v past.body.r ≡ true → Contains v.evidence said → said.signer ≡ itself v → said.statement ≡ shown_of past
+      → did ≡ post_again v said ∷ [] → after ≡ v → Shows v past did after
+
+-- The server opens place k of a body's round: it signs its pad bits and posts them, then it shows its ciphertexts, and then it looks for clients to
+-- challenge.
+pub record Opens (v : ServerView) (b : Body) (past : Past) (k : ℕ) (did : List Act) (after : ServerView) : Type 0 where
+  pub padded : ServerView
+  pub signs : SignsAndKeeps v (pads_at v.seat b k) padded
+  pub shown : ServerView
+  pub shown_did : List Act
+  pub shows : Shows padded past shown_did shown
+  pub looked_did : List Act
+  pub looks : LooksAt (with_opened shown record { r = b.r; k = k }) record { r = b.r; k = k } looked_did after
+  pub in_order : did ≡ (post_next v (others_of v.seat) (pads_at v.seat b k) ∷ shown_did) ++ looked_did
 
 -- ---- what is answered
 
@@ -123,3 +128,11 @@ pub data Accuses (v : ServerView) (r : Round) (said : SaidView) (answer : Answer
   opens : (b : Body) (past : Past) (layout : List ℕ) (valid : Valid) (did : List Act) → IsAccused v r b past layout
       → IsValid layout b said.signer said.statement valid → ¬ Contains v.opened (place_of valid) → leaves_due v r ≤ left_of v - v.aside
       → Opens v b past valid.k did after → answer ≡ does did → Accuses v r said answer after
+
+-- The accusation is accepted: nothing stands against it.
+pub record IsAccepted (v : ServerView) (r : Round) (said : SaidView) (b : Body) (past : Past) (valid : Valid) : Type 0 where
+  pub layout : List ℕ
+  pub accused : IsAccused v r b past layout
+  pub holds : IsValid layout b said.signer said.statement valid
+  pub new : ¬ Contains v.opened (place_of valid)
+  pub leaves : leaves_due v r ≤ left_of v - v.aside

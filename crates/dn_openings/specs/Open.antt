@@ -1,6 +1,8 @@
 -- What a server keeps true of its openings, from call to call.
 use Rattle.std.specs.Prelude.{◌≡◌, ℕ, ◌<◌, Bool, false, List, length, All, Contains, Some}
 use Rattle.dn_record_types.specs.declared.body.Body.{Body}
+use Rattle.dn_lms.specs.Signature.{public_key}
+use Rattle.dn_roster.specs.Roster.{key_of}
 use Rattle.dn_seal.specs.Said.{IsUnder}
 use Rattle.dn_seal.specs.Signer.{CanSign}
 use Rattle.dn_cert.specs.Certificate.{IsOfRoster}
@@ -20,9 +22,10 @@ pub record IsOpenPlace (v : ServerView) (place : Place) : Type 0 where
   pub within : place.k < length body.out
   pub shown : Says v.evidence (itself v) (shown_of past)
 
--- The bodies that it holds are of its group, and it has a seed with each client; what it keeps was said in its group; its ciphertexts of each
+-- It signs by its key in its group; the bodies that it holds are of the group, and it has a seed with each client; what it keeps was said in its group; its ciphertexts of each
 -- round fit into an envelope; and the places that it opened are such.
 pub record CanOpen (v : ServerView) : Type 0 where
+  pub member : key_of v.seat.roster (itself v) ≡ Some (public_key v.key)
   pub in_group : All (IsOfRoster v.seat.roster) (bodies v.chain)
   pub seeds : length v.seat.seeds ≡ length v.seat.roster.clients
   pub under : All (IsUnder v.seat.roster) v.evidence

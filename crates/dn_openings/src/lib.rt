@@ -5,6 +5,7 @@
 //! how it opens a place, and `specs/Challenging.antt` whom it challenges. Servers are seen as in the crate of what servers share.
 #![tactic(auto)]
 
+mod accusing;
 mod hearing;
 mod keeping;
 mod looking;
