@@ -2,3 +2,5 @@ pub mod KeptLemmas
 pub mod DueLemmas
 pub mod LookLemmas
 pub mod HearLemmas
+pub mod PadLemmas
+pub mod OpenLemmas

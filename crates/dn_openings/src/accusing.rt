@@ -11,14 +11,16 @@ ghost use Rattle.dn_server.specs.Answers.{ignored};
 ghost use Rattle.dn_server.specs.Parts.{live};
 ghost use Rattle.dn_server.specs.Server.{left_of};
 ghost use Rattle.dn_openings.specs.Accusing.{Accuses, HasSigned, IsAccused, has_opened, leaves_due, IsAccepted, place_of, reason_for};
+ghost use Rattle.dn_openings.specs.Open.{CanOpen};
 
 use crate::keeping::is_among;
+use crate::opening::open_place;
 use dn_cert::{Invalid, Rules, Valid};
 use dn_layout::Layout;
 use dn_memory::NoMemory;
 use dn_records::Body;
 use dn_seal::Said;
-use dn_server::{Answer, Parts, Place, Places, Reason};
+use dn_server::{Acts, Answer, Parts, Place, Places, Reason};
 use dn_wire::Round;
 
 /// The reason that is told.
@@ -104,4 +106,23 @@ pub(crate) fn accepted<R: Rules>(
         return Err(Reason::Spent);
     }
     Ok(valid)
+}
+
+/// Hears an accusation of round `r`.
+pub(crate) fn hear_accusation<R: Rules>(
+    rules: &R,
+    parts: &mut Parts,
+    r: Round,
+    said: &Said,
+) -> Result<Answer, NoMemory>
+    requires can { CanOpen (live parts.old) }
+    requires accusation { IsAccusation said.now.statement }
+    ensures { IfOk result (λ answer. Accuses (live parts.old) r said.now answer (live parts.new)) }
+{
+    let valid = match accepted(rules, parts, r, said) {
+        Ok(valid) => valid,
+        Err(why) => return Ok(Answer::Ignored(why)),
+    };
+    let acts = open_place(rules, parts, r, valid.k)?;
+    Ok(Answer::Acts(Acts::of(acts)))
 }

@@ -9,3 +9,5 @@ mod accusing;
 mod hearing;
 mod keeping;
 mod looking;
+mod opening;
+mod pads;
