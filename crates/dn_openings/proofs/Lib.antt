@@ -4,3 +4,4 @@ pub mod LookLemmas
 pub mod HearLemmas
 pub mod PadLemmas
 pub mod OpenLemmas
+pub mod StayLemmas
