@@ -1,6 +1,6 @@
 -- What openings alone show.
-use Rattle.std.proofs.Common.{◌≡◌, ◌≢◌, ℕ, ◌<◌, Bool, true, false, List, [], ◌∷◌, refl, sym, ap, ◌∙◌, subst, arith, length, inl, inr}
-use Rattle.std.specs.Prelude.{Contains, ◌⊎◌, ◌==◌, All, filter}
+use Rattle.std.proofs.Common.{◌≡◌, ℕ, ◌<◌, true, false, List, [], ◌∷◌, refl, sym, ap, ◌∙◌, subst, arith, length, inl, inr}
+use Rattle.std.specs.Prelude.{Contains, ◌==◌, All}
 use Rattle.std.proofs.lemmas.Bool.{false≢true, eq-eqb, eqb-true}
 use Rattle.std.proofs.lemmas.List.Elements.{All-contains, All-head, All-weaker, All-filter, All-contains_itself, filter_passes}
 use Rattle.dn_cert.proofs.Parts.{filter-keeps}
@@ -15,7 +15,7 @@ use Rattle.dn_trace.specs.declared.fault.Fault.{Fault}
 use Rattle.dn_trace.specs.declared.fault.Fault.TheVariants as faults
 use Rattle.dn_trace.specs.Trial.{Trial, Says, Heard, IsGiven, round_of, servers_of}
 use Rattle.dn_trace.specs.Tables.{a_server, a_client}
-use Rattle.dn_trace.specs.Challenged.{NamesNone, IsOpened, IsChallenged}
+use Rattle.dn_trace.specs.Challenged.{NamesNone, IsOpened}
 use Rattle.dn_trace.specs.Reasons.{Rebuts}
 use Rattle.dn_trace.specs.Verdict.{Has, HasLeast, ServerHas, ClientHas, Answers, IsSilent, IsVerdict}
 use Rattle.dn_server.specs.declared.places.Place.{Place}
@@ -136,35 +136,35 @@ module _ (place : Place) (trial : Trial) (only : AreOpenings place trial.given) 
     given_kept who s says =
         let there : Contains (openings_of kept place) says.0 = subst (λ l. Contains l says.0) given says.1 in
         let all : All (Contains kept) (openings_of kept place) =
-          All-filter (λ x. is_opening place.r place.k x.statement) (Contains kept) kept (All-contains_itself kept) in
+        All-filter (λ x. is_opening place.r place.k x.statement) (Contains kept) kept (All-contains_itself kept) in
         (says.0, All-contains (Contains kept) (openings_of kept place) says.0 all there, says.2, says.3)
 
     -- a server has opened by what is kept exactly where it has by what is given
     pub opened_so : (j : ℕ) → HasOpened kept place j → IsOpened trial j
     opened_so j h =
         let shows : IsGiven trial (server j) (kinds.Shown place.r h.s h.shown) =
-          kept_given (server j) (kinds.Shown place.r h.s h.shown) h.shows (eq-eqb place.r.0 place.r.0 refl) in
+        kept_given (server j) (kinds.Shown place.r h.s h.shown) h.shows (eq-eqb place.r.0 place.r.0 refl) in
         let signed : IsGiven trial (server j) (kinds.PadBits place.r place.k h.pad) =
-          kept_given (server j) (kinds.PadBits place.r place.k h.pad) h.signed (is_its_pad place.r place.k h.pad) in
+        kept_given (server j) (kinds.PadBits place.r place.k h.pad) h.signed (is_its_pad place.r place.k h.pad) in
         record {
           s = h.s;
           shown = h.shown;
           shows = inl (subst (λ r. IsGiven trial (server j) (kinds.Shown r h.s h.shown)) (sym round) shows);
           pad = h.pad;
           signed = inl (subst (λ k. IsGiven trial (server j) (kinds.PadBits (round_of trial) k h.pad)) (sym at)
-            (subst (λ r. IsGiven trial (server j) (kinds.PadBits r place.k h.pad)) (sym round) signed));
+              (subst (λ r. IsGiven trial (server j) (kinds.PadBits r place.k h.pad)) (sym round) signed));
         }
 
     pub opened_from : (j : ℕ) → IsOpened trial j → HasOpened kept place j
     opened_from j h =
         let shows : Says kept (server j) (kinds.Shown (round_of trial) h.s h.shown) =
-          given_kept (server j) (kinds.Shown (round_of trial) h.s h.shown) (heard_given (server j) (kinds.Shown (round_of trial) h.s h.shown) h.shows) in
+        given_kept (server j) (kinds.Shown (round_of trial) h.s h.shown) (heard_given (server j) (kinds.Shown (round_of trial) h.s h.shown) h.shows) in
         let signed : Says kept (server j) (kinds.PadBits (round_of trial) trial.k h.pad) =
-          given_kept (server j) (kinds.PadBits (round_of trial) trial.k h.pad) (heard_given (server j) (kinds.PadBits (round_of trial) trial.k h.pad) h.signed) in
+        given_kept (server j) (kinds.PadBits (round_of trial) trial.k h.pad) (heard_given (server j) (kinds.PadBits (round_of trial) trial.k h.pad) h.signed) in
         record {
           pad = h.pad;
           signed = subst (λ k. Says kept (server j) (kinds.PadBits place.r k h.pad)) at
-            (subst (λ r. Says kept (server j) (kinds.PadBits r trial.k h.pad)) round signed);
+              (subst (λ r. Says kept (server j) (kinds.PadBits r trial.k h.pad)) round signed);
           s = h.s;
           shown = h.shown;
           shows = subst (λ r. Says kept (server j) (kinds.Shown r h.s h.shown)) round shows;

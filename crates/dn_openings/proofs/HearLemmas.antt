@@ -1,9 +1,9 @@
 -- Looking at several places.
-use Rattle.std.proofs.Common.{◌≡◌, ℕ, ◌+◌, ◌<◌, Bool, true, false, List, [], ◌∷◌, ◌++◌, map, take, length, get_or, cond, refl, sym, ap, ◌∙◌, subst, append_assoc}
-use Rattle.std.specs.Prelude.{Contains, All, filter, IsPermutation, Some, ◌==◌}
+use Rattle.std.proofs.Common.{◌≡◌, ℕ, ◌+◌, ◌<◌, Bool, true, List, [], ◌∷◌, ◌++◌, map, take, length, get_or, refl, sym, ap, ◌∙◌, subst, append_assoc}
+use Rattle.std.specs.Prelude.{Contains, filter, IsPermutation, Some, ◌==◌}
 use Rattle.std.proofs.lemmas.Bool.{eqb-true, and_parts, false≢true}
-use Rattle.std.proofs.lemmas.List.{map-append, take_more, append-nil}
-use Rattle.std.proofs.lemmas.List.Elements.{All-contains, All-filter, All-push, All-contains_itself, filter_more, filter_passes}
+use Rattle.std.proofs.lemmas.List.{map-append, take_more}
+use Rattle.std.proofs.lemmas.List.Elements.{All-contains, All-filter, All-push, All-contains_itself, filter_passes}
 use Rattle.std.proofs.lemmas.List.Sorted.{Contains-permutation, IsPermutation-sym}
 use Rattle.dn_cert.proofs.ListLemmas.{Contains-from_map}
 use Rattle.dn_cert.proofs.ChainLemmas.{round_is}
@@ -17,7 +17,7 @@ use Rattle.dn_server.specs.declared.act.Act.{Act}
 use Rattle.dn_server.specs.declared.places.Place.{Place}
 use Rattle.dn_server.specs.Server.{ServerView}
 use Rattle.dn_openings.specs.Evidence.{is_opening, with_evidence}
-use Rattle.dn_openings.specs.Challenging.{CanLook, LooksAt, LooksAtAll, LooksOn, LooksOnAll, has_looked, waits, finds_fault, finds_nobody, challenges, none, more, with_looked}
+use Rattle.dn_openings.specs.Challenging.{CanLook, LooksAt, LooksOn, LooksOnAll, has_looked, waits, finds_fault, finds_nobody, challenges, more, with_looked}
 use Rattle.dn_openings.specs.Hearing.{round_opened}
 use Rattle.dn_openings.specs.Open.{CanOpen}
 
@@ -40,12 +40,11 @@ pub looks_more : (v between after : ServerView) (r : Round) (numbers : List ℕ)
 looks_more v between after r numbers i k before mid done lt at all one =
     let place : ℕ → Place = λ n. record { r = r; k = n } in
     let places : map place (take (i + 1) numbers) ≡ map place (take i numbers) ++ place k ∷ [] =
-        ap (map place) (take_more numbers i 0 lt) ∙ map-append place (take i numbers) (get_or numbers i 0 ∷ [])
-        ∙ ap (λ n. map place (take i numbers) ++ place n ∷ []) at in
-    (
+    ap (map place) (take_more numbers i 0 lt) ∙ map-append place (take i numbers) (get_or numbers i 0 ∷ [])
+    ∙ ap (λ n. map place (take i numbers) ++ place n ∷ []) at in (
       all.0 ++ one.0,
       one.1 ∙ ap (λ l. l ++ one.0) all.1 ∙ append_assoc before all.0 one.0,
-      more (place k) (map place (take i numbers)) all.0 one.0 between places all.2 one.2 refl
+      more (place k) (map place (take i numbers)) all.0 one.0 between places all.2 one.2 refl,
     )
 
 -- a place that is opened can be looked at
@@ -65,7 +64,12 @@ can_look v place can there =
 -- also where one statement more is kept
 pub can_look_kept : (v : ServerView) (place : Place) (said : SaidView) → IsUnder v.seat.roster said → CanLook v place → CanLook (with_evidence v said) place
 can_look_kept v place said under can = record {
-  body = can.body; held = can.held; round = can.round; full = can.full; within = can.within; in_group = can.in_group;
+  body = can.body;
+  held = can.held;
+  round = can.round;
+  full = can.full;
+  within = can.within;
+  in_group = can.in_group;
   under = All-push (IsUnder v.seat.roster) v.evidence said can.under under;
 }
 

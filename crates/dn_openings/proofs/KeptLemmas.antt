@@ -1,12 +1,11 @@
 -- What is kept, and what of it opens a place.
-use Rattle.std.proofs.Common.{◌≡◌, ℕ, ◌+◌, ◌<◌, ◌≤◌, ◌^◌, [], ◌∷◌, ◌++◌, map, Bool, true, false, List, refl, sym, ap, ◌∙◌, subst, arith, get_or, length, inl, inr}
-use Rattle.std.specs.Prelude.{Contains, find, ◌&&◌, ◌==◌, ◌⊎◌, Some, None, MatchOption, Option, filter}
+use Rattle.std.proofs.Common.{◌≡◌, ℕ, ◌+◌, ◌<◌, ◌≤◌, ◌^◌, [], ◌∷◌, ◌++◌, map, Bool, true, List, refl, sym, ap, ◌∙◌, subst, arith, length}
+use Rattle.std.specs.Prelude.{Contains, ◌&&◌, ◌==◌, Some, None}
 use Rattle.std.proofs.lemmas.Bool.{eqb-true, eq-eqb, false≢true, and_parts}
 use Rattle.std.proofs.lemmas.Option.{none-some}
 use Rattle.dn_wire.specs.declared.ids.Round.{Round}
 use Rattle.dn_wire.specs.declared.ids.SignerId.{SignerId}
 use Rattle.dn_wire.specs.declared.ids.SignerId.TheVariants as signers
-use Rattle.dn_record_types.specs.declared.shown.ShownCipher.{ShownCipher}
 use Rattle.dn_record_types.specs.declared.statement.Statement.{Statement}
 use Rattle.dn_record_types.specs.declared.statement.Statement.TheVariants as kinds
 use Rattle.dn_seal.specs.Dealt.{server}
@@ -20,7 +19,7 @@ use Rattle.dn_trace.specs.Trial.{Says}
 use Rattle.dn_trace.proofs.HeardLemmas.{found, finds}
 use Rattle.dn_server.specs.declared.places.Place.{Place}
 use Rattle.dn_server.specs.Server.{is_server}
-use Rattle.dn_openings.specs.Evidence.{is_pad, is_opening, pad_by, HasOpened, AreEnvelopes}
+use Rattle.dn_openings.specs.Evidence.{is_pad, pad_by, AreEnvelopes}
 
 pub server_is : (j : ℕ) (who : SignerId) → is_server j who ≡ true → who ≡ server j
 server_is j (signers.Client i) h = absurd (false≢true h)
@@ -51,7 +50,6 @@ both a b p q = ap (λ x. x && b) p ∙ q
 pub is_its_pad : (r : Round) (k : ℕ) (pad : List Bool) → is_pad r k (kinds.PadBits r k pad) ≡ true
 is_its_pad r k pad = both (r.0 == r.0) (k == k) (eq-eqb r.0 r.0 refl) (eq-eqb k k refl)
 
-
 abbrev pub test_of : Place → ℕ → SaidView → Bool
 test_of place j x = is_server j x.signer && is_pad place.r place.k x.statement
 
@@ -67,8 +65,8 @@ pub pad_none : (kept : List SaidView) (place : Place) (j : ℕ) → pad_by kept 
 pad_none kept place j e pad says =
     let x = says.0 in
     let passes : test_of place j x ≡ true =
-        both (is_server j x.signer) (is_pad place.r place.k x.statement) (is_its_server j x.signer says.2)
-        (ap (is_pad place.r place.k) says.3 ∙ is_its_pad place.r place.k pad) in
+    both (is_server j x.signer) (is_pad place.r place.k x.statement) (is_its_server j x.signer says.2)
+    (ap (is_pad place.r place.k) says.3 ∙ is_its_pad place.r place.k pad) in
     let first = finds (test_of place j) kept says.1.0 x says.1.1 (ap (test_of place j) says.1.2 ∙ passes) in
     none-some first.0 (sym e ∙ first.1)
 
@@ -78,11 +76,11 @@ pub envelopes_more : (kept : List SaidView) (place : Place) (n : ℕ) (es : List
 envelopes_more kept place n es x are found_x = record {
   pads = are.pads ++ x ∷ [];
   each =
-    map-append (λ y. Some y) are.pads (x ∷ [])
-    ∙ ap (λ l. l ++ Some x ∷ []) are.each
-    ∙ ap (λ o. map (pad_by kept place) (below n) ++ o ∷ []) (sym found_x)
-    ∙ sym (map-append (pad_by kept place) (below n) (n ∷ []))
-    ∙ ap (map (pad_by kept place)) (sym (below_more n));
+      map-append (λ y. Some y) are.pads (x ∷ [])
+      ∙ ap (λ l. l ++ Some x ∷ []) are.each
+      ∙ ap (λ o. map (pad_by kept place) (below n) ++ o ∷ []) (sym found_x)
+      ∙ sym (map-append (pad_by kept place) (below n) (n ∷ []))
+      ∙ ap (map (pad_by kept place)) (sym (below_more n));
   spelled = ap (λ l. l ++ x.bytes ∷ []) are.spelled ∙ sym (map-append (λ y. y.bytes) are.pads (x ∷ []));
 }
 

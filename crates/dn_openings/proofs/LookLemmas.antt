@@ -1,6 +1,6 @@
 -- What a server needs to look at a place.
-use Rattle.std.proofs.Common.{◌≡◌, ◌≢◌, ℕ, ◌<◌, Bool, true, false, List, refl, sym, ap, ◌∙◌, subst, arith, length, cond, [], ◌∷◌, inl, inr}
-use Rattle.std.specs.Prelude.{Contains, All, ◌↔◌}
+use Rattle.std.proofs.Common.{◌≡◌, ◌≢◌, ℕ, ◌<◌, false, List, refl, sym, ap, ◌∙◌, subst, length, cond, [], ◌∷◌, inl, inr}
+use Rattle.std.specs.Prelude.{Contains, All}
 use Rattle.std.proofs.lemmas.List.Elements.{All-filter}
 use Rattle.dn_record_types.specs.declared.body.Body.{Body}
 use Rattle.dn_roster.specs.Roster.{RosterView}
@@ -10,7 +10,7 @@ use Rattle.dn_openings.specs.Evidence.{is_opening, openings_of, HasOpened}
 use Rattle.dn_openings.proofs.DueLemmas.{AreOpenings, openings_open, opened_so}
 use Rattle.dn_layout.specs.Layout.{bits_of}
 use Rattle.dn_cert.specs.Certificate.{IsOfRoster}
-use Rattle.dn_cert.specs.Chain.{ChainView, bodies, Holds, IsChain, IsLayoutAfter, bits_due}
+use Rattle.dn_cert.specs.Chain.{ChainView, bodies, Holds, IsChain, IsLayoutAfter}
 use Rattle.dn_cert.proofs.ChainLemmas.{one_body, has_layout, layout_is_one_lem}
 use Rattle.dn_server.specs.declared.places.Place.{Place}
 use Rattle.dn_server.specs.Server.{ServerView, servers_in}

@@ -1,7 +1,7 @@
 -- What stays while a server opens a place.
 use Rattle.std.proofs.Common.{◌≡◌, ℕ, ◌+◌, ◌-◌, ◌<◌, ◌≤◌, Bool, true, false, List, [], ◌∷◌, ◌++◌, length, cond, refl, sym, ap, ◌∙◌, subst, arith, inl, inr, length-append}
 use Rattle.dn_bits.specs.Bits.{bit}
-use Rattle.std.specs.Prelude.{Result, Ok, Err, IfOk, zero, suc, Contains, All, Some, find, ◌==◌, ◌||◌, ◌⊎◌}
+use Rattle.std.specs.Prelude.{Result, Ok, Err, IfOk, zero, suc, Contains, All, Some, ◌==◌, ◌||◌}
 use Rattle.std.specs.List.{list_any}
 use Rattle.std.proofs.lemmas.Bool.{false≢true, cases_Bool, eqb-true}
 use Rattle.std.proofs.lemmas.Option.{same_Some}
@@ -22,10 +22,9 @@ use Rattle.dn_trace.proofs.HeardLemmas.{found}
 use Rattle.dn_server.specs.declared.act.Act.{Act}
 use Rattle.dn_server.specs.declared.past.Past.{Past}
 use Rattle.dn_server.specs.declared.places.Place.{Place}
-use Rattle.dn_server.specs.Server.{ServerView, itself, left_of, past_of, said_next, with_signed}
-use Rattle.dn_openings.specs.Evidence.{with_evidence}
+use Rattle.dn_server.specs.Server.{ServerView, itself, left_of, past_of, said_next}
 use Rattle.dn_openings.specs.Challenging.{CanLook}
-use Rattle.dn_openings.specs.Accusing.{HasSigned, SignsAndKeeps, KeepsOnce, is_kept, is_new, Shows, first_of_round, again, has_opened, leaves_due, shown_of, with_opened}
+use Rattle.dn_openings.specs.Accusing.{HasSigned, SignsAndKeeps, is_kept, is_new, Shows, first_of_round, again, has_opened, leaves_due, shown_of, with_opened}
 use Rattle.dn_openings.specs.Open.{CanOpen, CanPad, CanShow}
 
 -- where some element passes there is one
@@ -74,7 +73,7 @@ module _ (v : ServerView) (can : CanOpen v) (r : Round) (b : Body) (past : Past)
       let open_place = can.places place one.1 in
       let round : place.r ≡ r = round_is place.r r (eqb-true place.r.0 r.0 one.2) in
       let same : open_place.past ≡ past =
-        same_Some open_place.past past (sym open_place.signed.kept ∙ ap (λ (q : Round). past_of v.pasts q.0) round ∙ signed.kept) in
+      same_Some open_place.past past (sym open_place.signed.kept ∙ ap (λ (q : Round). past_of v.pasts q.0) round ∙ signed.kept) in
       subst (λ p. Says v.evidence (itself v) (shown_of p)) same open_place.shown
 
   pub can_show : (s : Statement) (padded : ServerView) → SignsAndKeeps v s padded → (has_opened v r ≡ false → length v.signed + 1 < leaf_count v.key) → CanShow padded r
@@ -112,8 +111,8 @@ module _ (v : ServerView) (can : CanOpen v) (r : Round) (b : Body) (past : Past)
       let seat : shown.seat ≡ v.seat = ap (λ (w : ServerView). w.seat) then.is ∙ ap (λ (w : ServerView). w.seat) more.is in
       let chain : shown.chain ≡ v.chain = ap (λ (w : ServerView). w.chain) then.is ∙ ap (λ (w : ServerView). w.chain) more.is in
       let under : All (IsUnder padded.seat.roster) then.evidence =
-        then.under (subst (λ (w : ServerView). key_of w.seat.roster (itself w) ≡ Some (public_key w.key)) (sym more.is) can.member)
-        (subst (λ (w : ServerView). All (IsUnder w.seat.roster) w.evidence) (sym more.is) (more.under can.member can.under)) in
+      then.under (subst (λ (w : ServerView). key_of w.seat.roster (itself w) ≡ Some (public_key w.key)) (sym more.is) can.member)
+      (subst (λ (w : ServerView). All (IsUnder w.seat.roster) w.evidence) (sym more.is) (more.under can.member can.under)) in
       let same : shown.evidence ≡ then.evidence = ap (λ (w : ServerView). w.evidence) then.is in
       looks_of k full within shown seat chain
       (subst (λ e. All (IsUnder v.seat.roster) e) (sym same)

@@ -1,13 +1,11 @@
 -- Bits that are set one by one.
-use Rattle.std.proofs.Common.{◌≡◌, ◌≢◌, ℕ, ◌+◌, ◌<◌, Bool, true, false, not, List, [], map, take, length, get_or, cond, refl, sym, ap, ◌∙◌, subst, arith, inl, inr}
-use Rattle.std.specs.Prelude.{◌==◌, ◌||◌, ◌⊎◌}
-use Rattle.std.specs.List.{list_any}
+use Rattle.std.proofs.Common.{◌≡◌, ℕ, Bool, true, false, not, List, map, length, cond, refl, sym, ap, ◌∙◌, arith, inl, inr}
+use Rattle.std.specs.Prelude.{◌==◌, ◌||◌}
 use Rattle.std.specs.Bool.{beq}
-use Rattle.std.proofs.lemmas.Bool.{false≢true, eq-eqb, cases_Bool}
+use Rattle.std.proofs.lemmas.Bool.{false≢true, eq-eqb}
 use Rattle.std.proofs.lemmas.Bool.Decides.{eqb_tells}
 use Rattle.std.proofs.lemmas.List.{length-replicate}
 use Rattle.std.proofs.lemmas.List.FromFn.{fill_by_all, get_or-map-range_with_len, length-map-range_with_len}
-use Rattle.std.proofs.lemmas.List.Folds.{list_any_more}
 use Rattle.dn_bits.specs.Bits.{below, bit, flip_at, zeros}
 use Rattle.dn_bits.proofs.WordLemmas.{same_bits}
 use Rattle.dn_bits.proofs.BitLemmas.{bit-zeros}
@@ -61,9 +59,11 @@ set_more n listed now f c value old new was is fits more =
     or_true : (b : Bool) → (b || true) ≡ true
     or_true true = refl
     or_true false = refl
+
     or_false : (b : Bool) → (b || false) ≡ b
     or_false true = refl
     or_false false = refl
+
     unequal : (a b : ℕ) → (a ≡ b → ⊥) → (a == b) ≡ false
     unequal a b n = elim (eqb_tells a b) [ inl same ↦ absurd (n same.1) | inr apart ↦ apart.0 ]
 

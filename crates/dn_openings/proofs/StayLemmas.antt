@@ -1,6 +1,6 @@
 -- What a server keeps true of its openings stays true.
 use Rattle.std.proofs.Common.{◌≡◌, ℕ, ◌<◌, false, List, [], ◌∷◌, ◌++◌, length, refl, sym, ap, ◌∙◌, subst, inl, inr}
-use Rattle.std.specs.Prelude.{Contains, All, Some, ◌⊎◌}
+use Rattle.std.specs.Prelude.{Contains, All, Some}
 use Rattle.std.proofs.lemmas.List.Elements.{All-push, Contains-append_left, Contains-push_cases}
 use Rattle.dn_wire.specs.declared.ids.Round.{Round}
 use Rattle.dn_record_types.specs.declared.body.Body.{Body}
@@ -16,11 +16,11 @@ use Rattle.dn_cert.specs.Chain.{bodies}
 use Rattle.dn_server.specs.Justified.{Seat}
 use Rattle.dn_server.specs.Server.{ServerView, itself, past_of}
 use Rattle.dn_openings.specs.Evidence.{with_evidence}
-use Rattle.dn_openings.specs.Challenging.{LooksAt, LooksAtAll, has_looked, waits, finds_fault, finds_nobody, challenges, none, more, with_looked}
-use Rattle.dn_openings.specs.Accusing.{HasSigned, SignsAndKeeps, Shows, first_of_round, again, Opens, Accuses, not_signed, not_valid, is_opened, is_spent, opens, shown_of, pads_at, with_opened}
-use Rattle.dn_openings.specs.Hearing.{HearsOpening, not_held, repeats, keeps, HearsAnswer, repeats_it, keeps_it, HearsEvidence, of_no_use, opening, accusation, answers}
+use Rattle.dn_openings.specs.Challenging.{LooksAt, LooksAtAll, has_looked, waits, finds_fault, finds_nobody, challenges, none, more}
+use Rattle.dn_openings.specs.Accusing.{HasSigned, SignsAndKeeps, Shows, first_of_round, again, Opens, not_signed, not_valid, is_opened, is_spent, opens, shown_of, pads_at, with_opened}
+use Rattle.dn_openings.specs.Hearing.{not_held, repeats, keeps, repeats_it, keeps_it, HearsEvidence, of_no_use, opening, accusation, answers}
 use Rattle.dn_openings.specs.Open.{CanOpen, IsOpenPlace}
-use Rattle.dn_openings.proofs.OpenLemmas.{Signed, signed_so, one_within}
+use Rattle.dn_openings.proofs.OpenLemmas.{signed_so, one_within}
 
 module _ (v : ServerView) (can : CanOpen v) (signed : List Statement) (evidence : List SaidView) (challenged : List Place)
     (kept : (x : SaidView) → Contains v.evidence x → Contains evidence x) (under : All (IsUnder v.seat.roster) evidence) where
@@ -33,13 +33,21 @@ module _ (v : ServerView) (can : CanOpen v) (signed : List Statement) (evidence 
 
   place_later : (place : Place) → IsOpenPlace v place → IsOpenPlace later place
   place_later place p = record {
-    body = p.body; past = p.past; signed = signed_later place.r p.body p.past p.signed; full = p.full; within = p.within;
+    body = p.body;
+    past = p.past;
+    signed = signed_later place.r p.body p.past p.signed;
+    full = p.full;
+    within = p.within;
     shown = (p.shown.0, kept p.shown.0 p.shown.1, p.shown.2, p.shown.3);
   }
 
   pub can_later : CanOpen later
   can_later = record {
-    member = can.member; in_group = can.in_group; seeds = can.seeds; under = under; sizes = can.sizes;
+    member = can.member;
+    in_group = can.in_group;
+    seeds = can.seeds;
+    under = under;
+    sizes = can.sizes;
     places = λ place there. place_later place (can.places place there);
   }
 
@@ -102,7 +110,11 @@ shows_leave v past did after (again said has there by is did_is same) =
 -- one place more is open
 can_open_more : (v : ServerView) (place : Place) → CanOpen v → IsOpenPlace v place → CanOpen (with_opened v place)
 can_open_more v place can is = record {
-  member = can.member; in_group = can.in_group; seeds = can.seeds; under = can.under; sizes = can.sizes;
+  member = can.member;
+  in_group = can.in_group;
+  seeds = can.seeds;
+  under = can.under;
+  sizes = can.sizes;
   places = λ q there. elim (Contains-push_cases v.opened place q there) [
     | inl old ↦ moved q (can.places q old)
     | inr new ↦ moved q (subst (IsOpenPlace v) new is)
@@ -111,7 +123,11 @@ can_open_more v place can is = record {
   where
     moved : (q : Place) → IsOpenPlace v q → IsOpenPlace (with_opened v place) q
     moved q p = record {
-      body = p.body; past = p.past; full = p.full; within = p.within; shown = p.shown;
+      body = p.body;
+      past = p.past;
+      full = p.full;
+      within = p.within;
+      shown = p.shown;
       signed = record { held = p.signed.held; round = p.signed.round; kept = p.signed.kept; of_body = p.signed.of_body };
     }
 
@@ -126,11 +142,11 @@ can_opens v b past k did after r signed full within o can =
     let chain = then.chain ∙ left.chain in
     let pasts = then.pasts ∙ left.pasts in
     let kept : past_of o.shown.pasts b.r.0 ≡ Some past =
-        ap (λ l. past_of l b.r.0) pasts ∙ ap (λ (q : Round). past_of v.pasts q.0) signed.round ∙ signed.kept in
+    ap (λ l. past_of l b.r.0) pasts ∙ ap (λ (q : Round). past_of v.pasts q.0) signed.round ∙ signed.kept in
     let here : HasSigned o.shown b.r b past =
-        record { held = subst (λ c. Contains (bodies c) b) (sym chain) signed.held; round = refl; kept = kept; of_body = signed.of_body } in
+    record { held = subst (λ c. Contains (bodies c) b) (sym chain) signed.held; round = refl; kept = kept; of_body = signed.of_body } in
     let says : Says o.shown.evidence (itself o.shown) (shown_of past) =
-        subst (λ (q : Seat). Says o.shown.evidence (server q.number) (shown_of past)) (sym then.seat) (shown_kept o.padded past o.shown_did o.shown o.shows) in
+    subst (λ (q : Seat). Says o.shown.evidence (server q.number) (shown_of past)) (sym then.seat) (shown_kept o.padded past o.shown_did o.shown o.shows) in
     let is : IsOpenPlace o.shown place = record { body = b; past = past; signed = here; full = full; within = within; shown = says } in
     can_look_at (with_opened o.shown place) place o.looked_did after o.looks (can_open_more o.shown place can_shown is)
 

@@ -1,5 +1,5 @@
 -- Openings of servers, and answers of clients, as a server keeps them.
-use Rattle.std.specs.Prelude.{◌≡◌, ℕ, ◌<◌, ◌==◌, ◌&&◌, Bool, false, List, [], ◌∷◌, ◌++◌, filter, find, length, map, Option, Some, slice_get}
+use Rattle.std.specs.Prelude.{◌≡◌, ℕ, ◌==◌, ◌&&◌, Bool, false, List, [], ◌∷◌, ◌++◌, filter, find, map, Option, Some}
 use Rattle.dn_wire.specs.declared.ids.Round.{Round}
 use Rattle.dn_bits.specs.Bits.{below}
 use Rattle.dn_record_types.specs.declared.statement.Statement.{Statement}

@@ -1,5 +1,5 @@
 -- What a server keeps true of its openings, from call to call.
-use Rattle.std.specs.Prelude.{◌≡◌, ℕ, ◌<◌, Bool, false, true, List, length, All, Contains, Some}
+use Rattle.std.specs.Prelude.{◌≡◌, ◌<◌, false, true, length, All, Contains, Some}
 use Rattle.dn_wire.specs.declared.ids.Round.{Round}
 use Rattle.dn_record_types.specs.declared.body.Body.{Body}
 use Rattle.dn_lms.specs.Signature.{public_key}

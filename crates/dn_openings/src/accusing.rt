@@ -70,7 +70,11 @@ fn signed_body(parts: &Parts, r: Round) -> Option<&Body>
 {
     let body = parts.chain.body(r)?;
     let past = parts.pasts.of(r)?;
-    if past.body.equals(body) { Some(body) } else { None }
+    if past.body.equals(body) {
+        Some(body)
+    } else {
+        None
+    }
 }
 
 /// Whether the server accepts an accusation of round `r`: the place that it opens, or the reason why it doesn't.

@@ -33,11 +33,13 @@ pub(crate) fn round_opened(s: &Statement) -> Option<Round>
 fn touched(alloc: Global, places: &[Place], s: &Statement) -> Result<Vec<u32>, NoMemory>
     ensures { IfOk result (λ v. v.items ≡ map (λ p. p.k) (filter (λ p. is_opening p.r p.k s.now) places.now)) }
 {
-    Ok(places
-        .iter()
-        .filter(|place| is_opening(s, **place))
-        .map(|place| place.k)
-        .collect(alloc)?)
+    Ok(
+        places
+            .iter()
+            .filter(|place| is_opening(s, **place))
+            .map(|place| place.k)
+            .collect(alloc)?,
+    )
 }
 
 /// The numbers of those places that the statement opens too, in ascending order.

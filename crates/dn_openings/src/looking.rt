@@ -74,16 +74,19 @@ fn due_at<R: Rules>(
         unreachable!()
     };
     let given = openings_of(alloc, parts.evidence.get(), place)?;
-    due(alloc, rules, parts.identity.roster(), body, layout, place, &given)
+    due(
+        alloc,
+        rules,
+        parts.identity.roster(),
+        body,
+        layout,
+        place,
+        &given,
+    )
 }
 
 /// The envelopes of the first pad bits of the place of each of `n` servers, which all have opened it.
-fn envelopes(
-    alloc: Global,
-    kept: &[Said],
-    place: Place,
-    n: u32,
-) -> Result<Vec<Bytes>, NoMemory>
+fn envelopes(alloc: Global, kept: &[Said], place: Place, n: u32) -> Result<Vec<Bytes>, NoMemory>
     requires { (j : ℕ) → j < n → HasOpened kept.now place j }
     ensures envelopes { IfOk result (λ v. AreEnvelopes kept.now place n v.items) }
     ensures count { IfOk result (λ v. length v.items ≡ n) }

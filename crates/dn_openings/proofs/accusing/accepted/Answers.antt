@@ -1,4 +1,4 @@
-use Rattle.std.proofs.Common.{◌≡◌, ◌<◌, ◌-◌, ℕ, List, refl, sym, ap, ◌∙◌, subst, arith}
+use Rattle.std.proofs.Common.{◌<◌, ◌-◌, ℕ, List, refl, sym, ap, ◌∙◌, subst}
 use Rattle.std.specs.Prelude.{Contains}
 use Rattle.std.proofs.lemmas.Bool.{false≢true}
 use Rattle.dn_record_types.specs.declared.body.Body.{Body}
@@ -33,8 +33,8 @@ returns-in-Err-clause-refused g c =
     let layout : List ℕ = c.in-Some-layout.layout.now in
     let accused : IsAccused v r b some.0 layout = record { body = some.1; after = c.in-Some-layout.ensures.layout } in
     let invalid : IsInvalid layout b said.signer said.statement c.in-Err.why =
-        subst (λ s. IsInvalid layout b said.signer s c.in-Err.why) c.statement.ensures.value
-        (subst (λ who. IsInvalid layout b who c.statement.result.now c.in-Err.why) c.signer.ensures.value c.in-Err.ensures.invalid) in
+    subst (λ s. IsInvalid layout b said.signer s c.in-Err.why) c.statement.ensures.value
+    (subst (λ who. IsInvalid layout b who c.statement.result.now c.in-Err.why) c.signer.ensures.value c.in-Err.ensures.invalid) in
     not_valid b some.0 layout c.in-Err.why accused invalid (ap ignored c.reason_for.ensures) refl
 
 pub returns-then-is_among-clause-refused : goal.returns-then-is_among-clause-refused
@@ -47,8 +47,8 @@ returns-then-is_among-clause-refused g c =
     let layout : List ℕ = c.in-Some-layout.layout.now in
     let accused : IsAccused v r b some.0 layout = record { body = some.1; after = c.in-Some-layout.ensures.layout } in
     let holds : IsValid layout b said.signer said.statement c.in-Ok.valid =
-        subst (λ s. IsValid layout b said.signer s c.in-Ok.valid) c.statement.ensures.value
-        (subst (λ who. IsValid layout b who c.statement.result.now c.in-Ok.valid) c.signer.ensures.value c.in-Ok.ensures.valid) in
+    subst (λ s. IsValid layout b said.signer s c.in-Ok.valid) c.statement.ensures.value
+    (subst (λ who. IsValid layout b who c.statement.result.now c.in-Ok.valid) c.signer.ensures.value c.in-Ok.ensures.valid) in
     let opened : Contains v.opened (place_of c.in-Ok.valid) = subst (λ l. Contains l (place_of c.in-Ok.valid)) c.get.ensures (c.is_among.ensures.0 c.if-is_among.true) in
     is_opened b some.0 layout c.in-Ok.valid accused holds opened refl refl
 
@@ -62,10 +62,10 @@ returns-then-leaves_free-leaves_due-clause-refused g c =
     let layout : List ℕ = c.in-Some-layout.layout.now in
     let accused : IsAccused v r b some.0 layout = record { body = some.1; after = c.in-Some-layout.ensures.layout } in
     let holds : IsValid layout b said.signer said.statement c.in-Ok.valid =
-        subst (λ s. IsValid layout b said.signer s c.in-Ok.valid) c.statement.ensures.value
-        (subst (λ who. IsValid layout b who c.statement.result.now c.in-Ok.valid) c.signer.ensures.value c.in-Ok.ensures.valid) in
+    subst (λ s. IsValid layout b said.signer s c.in-Ok.valid) c.statement.ensures.value
+    (subst (λ who. IsValid layout b who c.statement.result.now c.in-Ok.valid) c.signer.ensures.value c.in-Ok.ensures.valid) in
     let new : ¬ Contains v.opened (place_of c.in-Ok.valid) =
-        λ has. false≢true (sym c.if-is_among.false ∙ c.is_among.ensures.1 (subst (λ l. Contains l (place_of c.in-Ok.valid)) (sym c.get.ensures) has)) in
+    λ has. false≢true (sym c.if-is_among.false ∙ c.is_among.ensures.1 (subst (λ l. Contains l (place_of c.in-Ok.valid)) (sym c.get.ensures) has)) in
     let few : left_of v - v.aside < leaves_due v r =
-        subst (λ n. n < leaves_due v r) c.leaves_free.ensures (subst (λ n. c.leaves_free.result < n) c.leaves_due.ensures c.if-leaves_free-leaves_due.true) in
+    subst (λ n. n < leaves_due v r) c.leaves_free.ensures (subst (λ n. c.leaves_free.result < n) c.leaves_due.ensures c.if-leaves_free-leaves_due.true) in
     is_spent b some.0 layout c.in-Ok.valid accused holds new few refl refl

@@ -1,4 +1,4 @@
-use Rattle.std.proofs.Common.{◌≡◌, ap}
+use Rattle.std.proofs.Common.{ap}
 use Rattle.dn_server.specs.declared.answer.Answer.TheVariants as given
 use Rattle.dn_openings.specs.Accusing.{opens}
 use Rattle.dn_openings.proofs.accusing.hear_accusation.Goals as goal

@@ -5,7 +5,7 @@ use Rattle.dn_seal.specs.Said.{SaidView}
 use Rattle.dn_server.specs.Parts.{live}
 use Rattle.dn_server.specs.Server.{ServerView}
 use Rattle.dn_openings.specs.Accusing.{Accuses}
-use Rattle.dn_openings.specs.Hearing.{HearsOpening, HearsAnswer, HearsEvidence, IsByServer, IsByClient, IsAnswer, round_opened, opening, accusation, answers}
+use Rattle.dn_openings.specs.Hearing.{HearsOpening, HearsEvidence, IsByServer, round_opened, opening, accusation}
 use Rattle.dn_openings.proofs.evidence.heard.Goals as goal
 
 pub returns-in-PadBits : goal.returns-in-PadBits

@@ -1,11 +1,10 @@
-use Rattle.std.proofs.Common.{◌≡◌, ◌<◌, ℕ, List, [], ◌∷◌, ◌++◌, map, refl, sym, ap, ◌∙◌, subst}
+use Rattle.std.proofs.Common.{◌≡◌, List, [], ◌∷◌, ◌++◌, map, refl, sym, ap, ◌∙◌, subst}
 use Rattle.std.specs.Prelude.{Contains, IsPermutation, filter}
 use Rattle.std.proofs.lemmas.Bool.{false≢true}
 use Rattle.dn_seal.specs.Said.{SaidView}
 use Rattle.dn_cert.specs.Chain.{Holds}
 use Rattle.dn_trace.specs.Trial.{Says}
 use Rattle.dn_server.specs.declared.answer.Answer.TheVariants as answers
-use Rattle.dn_server.specs.declared.act.Act.{Act}
 use Rattle.dn_server.specs.declared.places.Place.{Place}
 use Rattle.dn_server.specs.Parts.{live}
 use Rattle.dn_server.specs.Server.{ServerView}
@@ -40,7 +39,7 @@ returns g c =
     let done = c.in_ok-look_at_all.ensures in
     let after : ServerView = live c.look_at_all.new.parts in
     let looks : LooksAtAll (with_evidence v said) places done.0 after =
-        subst (λ (l : List SaidView). LooksAtAll (record v { evidence = l }) places done.0 after) kept
-        (subst (λ l. LooksAtAll (record v { evidence = c.push.new.self }) (map (λ k. record { r = c.args.r; k = k }) l) done.0 after) c.deref.ensures.value done.2) in
+    subst (λ (l : List SaidView). LooksAtAll (record v { evidence = l }) places done.0 after) kept
+    (subst (λ l. LooksAtAll (record v { evidence = c.push.new.self }) (map (λ k. record { r = c.args.r; k = k }) l) done.0 after) c.deref.ensures.value done.2) in
     let did : c.of.result ≡ done.0 = c.of.ensures ∙ done.1 ∙ ap (λ l. l ++ done.0) c.new-acts.ensures.items in
     keeps places done.0 holds new touched looks (ap (λ l. answers.Acts l) did)

@@ -1,4 +1,4 @@
-use Rattle.std.proofs.Common.{ℕ, take, map}
+use Rattle.std.proofs.Common.{take, map}
 use Rattle.dn_server.specs.declared.places.Place.{Place}
 use Rattle.dn_server.specs.Parts.{live}
 use Rattle.dn_openings.specs.Challenging.{CanLook, LooksOnAll}

@@ -1,6 +1,5 @@
-use Rattle.std.proofs.Common.{◌≡◌, ◌≢◌, List, ◌∙◌, ap, sym, subst}
+use Rattle.std.proofs.Common.{◌≡◌, ◌∙◌, ap}
 use Rattle.std.proofs.lemmas.Result.{IfOk-weaker}
-use Rattle.dn_seal.specs.Said.{SaidView}
 use Rattle.dn_server.specs.Parts.{live}
 use Rattle.dn_trace.specs.Trial.{Trial}
 use Rattle.dn_openings.specs.Evidence.{openings_of}
@@ -18,7 +17,7 @@ due-requires-clause-within g c =
     let v = live c.args.parts.now in
     let b = c.in-Some.body.now in
     let are : c.deref.result.now ≡ openings_of c.args.parts.now.evidence c.args.place =
-        c.deref.ensures.value ∙ c.in_ok-given.ensures ∙ ap (λ l. openings_of l c.args.place) c.get.ensures in
+    c.deref.ensures.value ∙ c.in_ok-given.ensures ∙ ap (λ l. openings_of l c.args.place) c.get.ensures in
     (looked v c.args.place c.requires.can c.in-Some.ensures.chain b c.in-Some.ensures.body.0 c.in-Some.ensures.body.1 c.in-Some-layout.layout.now c.in-Some-layout.ensures.layout).within
 
 pub due-requires-clause-digests : goal.due-requires-clause-digests
@@ -26,7 +25,7 @@ due-requires-clause-digests g c =
     let v = live c.args.parts.now in
     let b = c.in-Some.body.now in
     let are : c.deref.result.now ≡ openings_of c.args.parts.now.evidence c.args.place =
-        c.deref.ensures.value ∙ c.in_ok-given.ensures ∙ ap (λ l. openings_of l c.args.place) c.get.ensures in
+    c.deref.ensures.value ∙ c.in_ok-given.ensures ∙ ap (λ l. openings_of l c.args.place) c.get.ensures in
     digests_so v c.args.place c.requires.can c.in-Some.ensures.chain b c.in-Some.ensures.body.0 c.in-Some.ensures.body.1 c.in-Some-layout.layout.now c.in-Some-layout.ensures.layout c.roster.result.now c.roster.ensures.value c.deref.result.now are
 
 pub due-requires-clause-listed : goal.due-requires-clause-listed
@@ -34,7 +33,7 @@ due-requires-clause-listed g c =
     let v = live c.args.parts.now in
     let b = c.in-Some.body.now in
     let are : c.deref.result.now ≡ openings_of c.args.parts.now.evidence c.args.place =
-        c.deref.ensures.value ∙ c.in_ok-given.ensures ∙ ap (λ l. openings_of l c.args.place) c.get.ensures in
+    c.deref.ensures.value ∙ c.in_ok-given.ensures ∙ ap (λ l. openings_of l c.args.place) c.get.ensures in
     listed_so v c.args.place c.requires.can c.in-Some.ensures.chain b c.in-Some.ensures.body.0 c.in-Some.ensures.body.1 c.in-Some-layout.layout.now c.in-Some-layout.ensures.layout c.roster.result.now c.roster.ensures.value c.deref.result.now are
 
 pub due-requires-clause-under : goal.due-requires-clause-under
@@ -42,7 +41,7 @@ due-requires-clause-under g c =
     let v = live c.args.parts.now in
     let b = c.in-Some.body.now in
     let are : c.deref.result.now ≡ openings_of c.args.parts.now.evidence c.args.place =
-        c.deref.ensures.value ∙ c.in_ok-given.ensures ∙ ap (λ l. openings_of l c.args.place) c.get.ensures in
+    c.deref.ensures.value ∙ c.in_ok-given.ensures ∙ ap (λ l. openings_of l c.args.place) c.get.ensures in
     under_so v c.args.place c.requires.can c.in-Some.ensures.chain b c.in-Some.ensures.body.0 c.in-Some.ensures.body.1 c.in-Some-layout.layout.now c.in-Some-layout.ensures.layout c.roster.result.now c.roster.ensures.value c.deref.result.now are
 
 pub due-requires-clause-open : goal.due-requires-clause-open
@@ -50,7 +49,7 @@ due-requires-clause-open g c =
     let v = live c.args.parts.now in
     let b = c.in-Some.body.now in
     let are : c.deref.result.now ≡ openings_of c.args.parts.now.evidence c.args.place =
-        c.deref.ensures.value ∙ c.in_ok-given.ensures ∙ ap (λ l. openings_of l c.args.place) c.get.ensures in
+    c.deref.ensures.value ∙ c.in_ok-given.ensures ∙ ap (λ l. openings_of l c.args.place) c.get.ensures in
     open_so v c.args.place c.requires.can c.in-Some.ensures.chain b c.in-Some.ensures.body.0 c.in-Some.ensures.body.1 c.in-Some-layout.layout.now c.in-Some-layout.ensures.layout c.roster.result.now c.roster.ensures.value c.deref.result.now are
 
 pub due-requires-clause-complete : goal.due-requires-clause-complete
@@ -58,7 +57,7 @@ due-requires-clause-complete g c =
     let v = live c.args.parts.now in
     let b = c.in-Some.body.now in
     let are : c.deref.result.now ≡ openings_of c.args.parts.now.evidence c.args.place =
-        c.deref.ensures.value ∙ c.in_ok-given.ensures ∙ ap (λ l. openings_of l c.args.place) c.get.ensures in
+    c.deref.ensures.value ∙ c.in_ok-given.ensures ∙ ap (λ l. openings_of l c.args.place) c.get.ensures in
     complete_so v c.args.place c.requires.can c.in-Some.ensures.chain b c.in-Some.ensures.body.0 c.in-Some.ensures.body.1 c.in-Some-layout.layout.now c.in-Some-layout.ensures.layout c.roster.result.now c.roster.ensures.value c.deref.result.now are c.requires.complete
 
 pub returns : goal.returns
@@ -66,7 +65,7 @@ returns g c =
     let v = live c.args.parts.now in
     let b = c.in-Some.body.now in
     let are : c.deref.result.now ≡ openings_of c.args.parts.now.evidence c.args.place =
-        c.deref.ensures.value ∙ c.in_ok-given.ensures ∙ ap (λ l. openings_of l c.args.place) c.get.ensures in
+    c.deref.ensures.value ∙ c.in_ok-given.ensures ∙ ap (λ l. openings_of l c.args.place) c.get.ensures in
     let tried : Trial = trial v c.args.place c.requires.can c.in-Some.ensures.chain b c.in-Some.ensures.body.0 c.in-Some.ensures.body.1 c.in-Some-layout.layout.now c.in-Some-layout.ensures.layout c.roster.result.now c.roster.ensures.value c.deref.result.now are in
     IfOk-weaker c.due.result (AreDue tried) (AreDueAt v c.args.place)
     (λ to due. (tried, is_trial v c.args.place c.requires.can c.in-Some.ensures.chain b c.in-Some.ensures.body.0 c.in-Some.ensures.body.1 c.in-Some-layout.layout.now c.in-Some-layout.ensures.layout c.roster.result.now c.roster.ensures.value c.deref.result.now are, due))

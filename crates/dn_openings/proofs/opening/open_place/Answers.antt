@@ -1,16 +1,15 @@
-use Rattle.std.proofs.Common.{◌≡◌, ◌<◌, ◌++◌, ◌∷◌, [], List, false, length, refl, sym, ap, ◌∙◌, subst}
+use Rattle.std.proofs.Common.{◌≡◌, ◌<◌, ◌++◌, ◌∷◌, [], List, length, sym, ap, ◌∙◌, subst}
 use Rattle.std.specs.Prelude.{Some}
 use Rattle.dn_wire.specs.declared.ids.Round.{Round}
 use Rattle.dn_record_types.specs.declared.body.Body.{Body}
 use Rattle.dn_record_types.specs.declared.statement.Statement.{Statement}
-use Rattle.dn_server.specs.declared.act.Act.{Act}
 use Rattle.dn_server.specs.declared.past.Past.{Past}
 use Rattle.dn_server.specs.declared.places.Place.{Place}
 use Rattle.dn_server.specs.Parts.{live}
 use Rattle.dn_server.specs.Server.{ServerView, others_of, past_of, post_next}
 use Rattle.dn_openings.specs.Challenging.{CanLook, LooksAt}
-use Rattle.dn_openings.specs.Accusing.{HasSigned, SignsAndKeeps, Shows, Opens, pads_at, with_opened}
-use Rattle.dn_openings.proofs.OpenLemmas.{signed_so, can_pad, can_show, can_look_opened, leaves_first, leaves_second, one_within}
+use Rattle.dn_openings.specs.Accusing.{HasSigned, SignsAndKeeps, pads_at, with_opened}
+use Rattle.dn_openings.proofs.OpenLemmas.{signed_so, can_show, can_look_opened, leaves_second, one_within}
 use Rattle.dn_openings.proofs.opening.open_place.Goals as goal
 
 pub show-requires : goal.show-requires
@@ -62,9 +61,9 @@ returns g c = λ b past signed.
     let shows = c.in_ok-show.ensures past kept in
     let looked = c.in_ok-look_at.ensures in
     let here : LooksAt (with_opened shown record { r = r; k = k }) record { r = r; k = k } looked.0 after =
-        subst (λ (l : List Place). LooksAt (record shown { opened = l }) record { r = r; k = k } looked.0 after) c.in_ok-push.ensures looked.2 in
+    subst (λ (l : List Place). LooksAt (record shown { opened = l }) record { r = r; k = k } looked.0 after) c.in_ok-push.ensures looked.2 in
     let first : c.sign_pads.new.acts.items ≡ post_next v to s ∷ [] =
-        c.in_ok-sign_pads.ensures.posted b signed.held signed.round ∙ ap (λ l. l ++ post_next v to s ∷ []) c.new-acts.ensures.items in
+    c.in_ok-sign_pads.ensures.posted b signed.held signed.round ∙ ap (λ l. l ++ post_next v to s ∷ []) c.new-acts.ensures.items in
     record {
       padded = padded;
       signs = signs;

@@ -18,22 +18,21 @@ returns-then-not-has_opened c =
     let lacks : has_opened v c.args.r ≡ false = sym c.has_opened.ensures ∙ c.if-not-has_opened.true in
     IfOk-weaker c.sign_shown.result
     (λ u. ((past : Past) → past_of v.pasts c.args.r.0 ≡ Some past → SignsAndKeeps v (shown_of past) after)
-      × ((past : Past) → past_of v.pasts c.args.r.0 ≡ Some past
-      → c.sign_shown.new.acts.items ≡ c.args.acts.now.items ++ post_next v (others_of v.seat) (shown_of past) ∷ []))
+    × ((past : Past) → past_of v.pasts c.args.r.0 ≡ Some past
+    → c.sign_shown.new.acts.items ≡ c.args.acts.now.items ++ post_next v (others_of v.seat) (shown_of past) ∷ []))
     (λ u. (past : Past) → past_of v.pasts c.args.r.0 ≡ Some past
-      → (did : List Act) × (c.sign_shown.new.acts.items ≡ c.args.acts.now.items ++ did) × Shows v past did after)
+    → (did : List Act) × (c.sign_shown.new.acts.items ≡ c.args.acts.now.items ++ did) × Shows v past did after)
     (λ u both past kept.
-      let same : c.requires.past ≡ past = same_Some c.requires.past past (sym c.requires.kept ∙ kept) in
-      let round : c.args.r ≡ past.body.r = sym c.requires.round ∙ ap (λ (p : Past). p.body.r) same in
-      (
-        post_next v (others_of v.seat) (shown_of past) ∷ [],
-        both.1 past kept,
-        first_of_round (subst (λ r. has_opened v r ≡ false) round lacks) (both.0 past kept) refl
-      ))
+    let same : c.requires.past ≡ past = same_Some c.requires.past past (sym c.requires.kept ∙ kept) in
+    let round : c.args.r ≡ past.body.r = sym c.requires.round ∙ ap (λ (p : Past). p.body.r) same in (
+      post_next v (others_of v.seat) (shown_of past) ∷ [],
+      both.1 past kept,
+      first_of_round (subst (λ r. has_opened v r ≡ false) round lacks) (both.0 past kept) refl,
+    ))
     (ok_both (λ u. (past : Past) → past_of v.pasts c.args.r.0 ≡ Some past → SignsAndKeeps v (shown_of past) after)
-      (λ u. (past : Past) → past_of v.pasts c.args.r.0 ≡ Some past
-      → c.sign_shown.new.acts.items ≡ c.args.acts.now.items ++ post_next v (others_of v.seat) (shown_of past) ∷ [])
-      c.sign_shown.result c.sign_shown.ensures.signed c.sign_shown.ensures.posted)
+    (λ u. (past : Past) → past_of v.pasts c.args.r.0 ≡ Some past
+    → c.sign_shown.new.acts.items ≡ c.args.acts.now.items ++ post_next v (others_of v.seat) (shown_of past) ∷ [])
+    c.sign_shown.result c.sign_shown.ensures.signed c.sign_shown.ensures.posted)
 
 pub returns : goal.returns
 returns c =
@@ -42,16 +41,15 @@ returns c =
     let has : has_opened v c.args.r ≡ true = sym c.has_opened.ensures ∙ c.if-not-has_opened.false in
     IfOk-weaker c.post_shown.result
     (λ u. (said : SaidView) × Contains v.evidence said × (said.signer ≡ itself v) × (said.statement ≡ shown_of mine)
-      × (c.post_shown.new.acts.items ≡ c.args.acts.now.items ++ post_again v said ∷ []))
+    × (c.post_shown.new.acts.items ≡ c.args.acts.now.items ++ post_again v said ∷ []))
     (λ u. (past : Past) → past_of v.pasts c.args.r.0 ≡ Some past
-      → (did : List Act) × (c.post_shown.new.acts.items ≡ c.args.acts.now.items ++ did) × Shows v past did v)
+    → (did : List Act) × (c.post_shown.new.acts.items ≡ c.args.acts.now.items ++ did) × Shows v past did v)
     (λ u posted past kept.
-      let here : mine ≡ past = same_Some mine past (sym c.in-Some.ensures ∙ kept) in
-      let same : c.requires.past ≡ past = same_Some c.requires.past past (sym c.requires.kept ∙ kept) in
-      let round : c.args.r ≡ past.body.r = sym c.requires.round ∙ ap (λ (p : Past). p.body.r) same in
-      (
-        post_again v posted.0 ∷ [],
-        posted.4,
-        again posted.0 (subst (λ r. has_opened v r ≡ true) round has) posted.1 posted.2 (posted.3 ∙ ap (λ (p : Past). shown_of p) here) refl refl
-      ))
+    let here : mine ≡ past = same_Some mine past (sym c.in-Some.ensures ∙ kept) in
+    let same : c.requires.past ≡ past = same_Some c.requires.past past (sym c.requires.kept ∙ kept) in
+    let round : c.args.r ≡ past.body.r = sym c.requires.round ∙ ap (λ (p : Past). p.body.r) same in (
+      post_again v posted.0 ∷ [],
+      posted.4,
+      again posted.0 (subst (λ r. has_opened v r ≡ true) round has) posted.1 posted.2 (posted.3 ∙ ap (λ (p : Past). shown_of p) here) refl refl,
+    ))
     c.post_shown.ensures
