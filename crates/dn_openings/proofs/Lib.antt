@@ -5,3 +5,4 @@ pub mod HearLemmas
 pub mod PadLemmas
 pub mod OpenLemmas
 pub mod StayLemmas
+pub mod DisciplineLemmas

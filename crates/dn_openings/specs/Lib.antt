@@ -3,3 +3,4 @@ pub mod Challenging
 pub mod Accusing
 pub mod Hearing
 pub mod Open
+pub mod Discipline
