@@ -1,58 +1,47 @@
 -- The signatures that a server keeps on the body of its round.
-use Rattle.std.proofs.Common.{◌≡◌, ℕ, zero, suc, ◌+◌, ◌<◌, ◌≤◌, List, [], ◌∷◌, ◌++◌, length, get_or, Some, refl, sym, ap, subst, ◌∙◌, arith, inl, inr}
-use Rattle.std.specs.Prelude.{All, Option, None, IsSome, option_map, slice_index}
+use Rattle.std.proofs.Common.{◌≡◌, ℕ, ◌+◌, ◌<◌, List, [], ◌∷◌, ◌++◌, length, get_or, Some, refl, sym, ap, subst, ◌∙◌, arith, inl, inr}
+use Rattle.std.specs.Prelude.{All, Result, Ok, Err, IfOk, Option, None, IsSome, option_map}
 use Rattle.std.proofs.lemmas.Bool.{cases_lt}
 use Rattle.std.proofs.lemmas.List.{length_push, get_or_push, get_or_append_left}
 use Rattle.std.proofs.lemmas.Option.{slice_get_within, slice_get-get_or, get_or_from_slice_get}
-use Rattle.dn_ots.specs.Parameters.{ots_length, chain_count}
-use Rattle.dn_lms.specs.Key.{height}
-use Rattle.dn_lms.specs.Signature.{Verifies, lms_length, ots_in}
+use Rattle.dn_lms.proofs.SizeLemmas.{verified_short}
 use Rattle.dn_wire.specs.declared.ids.SignerId.{SignerId}
 use Rattle.dn_record_types.specs.declared.body.Body.{Body}
 use Rattle.dn_record_types.specs.declared.statement.Statement.{Statement}
 use Rattle.dn_record_types.specs.declared.statement.Statement.TheVariants as kinds
-use Rattle.dn_records.specs.Records.{envelope_bytes}
 use Rattle.dn_roster.specs.Roster.{RosterView, key_of, digest_of}
+use Rattle.dn_record_types.specs.declared.payload.Payload.TheVariants as payloads
+use Rattle.dn_records.specs.Records.{IsPayload}
+use Rattle.dn_cert.specs.Certificate.{IsOfRoster, IsSigned}
 use Rattle.dn_seal.specs.Dealt.{server}
-use Rattle.dn_seal.specs.Said.{SaidView, IsUnder, Signs}
+use Rattle.dn_seal.specs.Said.{SaidView, IsSaid, IsUnder, Signs}
 use Rattle.dn_seal.specs.Signer.{envelope}
 use Rattle.dn_server.specs.Server.{is_of, kept_of, statement_of}
-use Rattle.dn_rounds.specs.Certifying.{IsSignatureOf, IsSignatureBy, AreSignatures}
+use Rattle.dn_rounds.specs.Certifying.{IsSignatureBy, AreSignatures}
 use Rattle.dn_server.specs.Keeping.{HasAll}
 use Rattle.dn_server.proofs.Shapes.{sign_shape}
 use Rattle.dn_server.proofs.KeptLemmas.{kept_by, kept_kind, All-find}
-
-count_few : (code : ℕ) → slice_index (0 ∷ 265 ∷ 133 ∷ 67 ∷ 34 ∷ []) code ≤ 265
-count_few zero = omega arith
-count_few (suc zero) = omega arith
-count_few (suc (suc zero)) = omega arith
-count_few (suc (suc (suc zero))) = omega arith
-count_few (suc (suc (suc (suc zero)))) = omega arith
-count_few (suc (suc (suc (suc (suc n))))) = omega arith
-
-pub short_signature : (key msg sig : List ℕ) → Verifies key msg sig → length sig < 65536
-unfolding lms_length ots_length height chain_count
-short_signature key msg sig v = omega (arith, v.long, v.lms_known, count_few (ots_in key))
 
 statement_is : (a b : Statement) → Some a ≡ Some b → a ≡ b
 statement_is a b e = cc
 
 pub signature_by_is : (roster : RosterView) (kept : List SaidView) (b : Body) (j : ℕ) (said : SaidView) (sig : List ℕ) → kept_of kept 6 j ≡ Some said
-    → statement_of kept 6 j ≡ Some (kinds.Sign b) → All (IsUnder roster) kept → IsSignatureOf said sig → IsSignatureBy roster kept b j sig
-signature_by_is roster kept b j said sig e says under is =
+    → statement_of kept 6 j ≡ Some (kinds.Sign b) → All (IsUnder roster) kept → IsSaid said → said.signature ≡ sig → IsSignatureBy roster kept b j sig
+signature_by_is roster kept b j said sig e says under is same =
     let by = kept_by kept 6 j said e in
     let statement = statement_is said.statement (kinds.Sign b) (sym (ap (option_map (λ (s : SaidView). s.statement)) e) ∙ says) in
     let mine = All-find (IsUnder roster) (is_of 6 j) kept said under e in
     let key = get_or_from_slice_get roster.servers j said.key [] (sym (ap (key_of roster) by) ∙ mine.1) in
     let known = get_or roster.servers j [] in
     record {
-      kept_so = ap (option_map (λ (s : SaidView). s.bytes)) e ∙ ap Some (is.spelled ∙ ap envelope_bytes (λ i. envelope (by i) (statement i) sig));
+      kept_so = ap (option_map (λ (s : SaidView). s.signature)) e ∙ ap Some same;
       signs =
-          subst (λ (x : Statement). Signs (digest_of roster) known (envelope (server j) x sig)) statement
-          (subst (λ (w : SignerId). Signs (digest_of roster) known (envelope w said.statement sig)) by
-          (subst (λ (k : List ℕ). Signs (digest_of roster) k (envelope said.signer said.statement sig)) (sym key)
-          (subst (λ (d : List ℕ). Signs d said.key (envelope said.signer said.statement sig)) mine.0 is.verifies)));
-      short = short_signature said.key _ sig is.verifies;
+          subst (λ (l : List ℕ). Signs (digest_of roster) known (envelope (server j) (kinds.Sign b) l)) same
+          (subst (λ (x : Statement). Signs (digest_of roster) known (envelope (server j) x said.signature)) statement
+          (subst (λ (w : SignerId). Signs (digest_of roster) known (envelope w said.statement said.signature)) by
+          (subst (λ (k : List ℕ). Signs (digest_of roster) k (envelope said.signer said.statement said.signature)) (sym key)
+          (subst (λ (d : List ℕ). Signs d said.key (envelope said.signer said.statement said.signature)) mine.0 is.verifies))));
+      short = subst (λ (l : List ℕ). length l < 65536) same (let long = verified_short said.key _ said.signature is.verifies in omega (arith, long));
     }
 
 -- one more in the list
@@ -87,3 +76,20 @@ all_sign kept n b has one j lt = by (kept_of kept 6 j) refl (has j lt)
         let shape = sign_shape said.statement (kept_kind kept 6 j said e) in
         let says : statement_of kept 6 j ≡ Some (kinds.Sign shape.0) = ap (option_map (λ (s : SaidView). s.statement)) e ∙ ap Some shape.1 in
         says ∙ ap (λ x. Some (kinds.Sign x)) (one j shape.0 lt says)
+
+-- what two facts of a result give together
+pub if_both : {X Y : Type 0} (r : Result X Y) (P Q R : X → Type 0) → ((x : X) → P x → Q x → R x) → IfOk r P → IfOk r Q → IfOk r R
+if_both (Ok x) P Q R f p q = f x p q
+if_both (Err e) P Q R f p q = tt
+
+-- the signatures make a certificate of the body
+pub are_signed : (roster : RosterView) (kept : List SaidView) (b : Body) (signatures : List (List ℕ)) → AreSignatures roster kept b (length roster.servers) signatures → IsOfRoster roster b
+    → IsPayload (payloads.Certificate b signatures) → IsSigned (digest_of roster) roster.version (length roster.clients) roster.servers b signatures
+are_signed roster kept b signatures are group fits = record {
+  fits = fits;
+  each = are.each;
+  within = group;
+  signed = λ j lt.
+      let within : j < length signatures = omega (arith, are.each) in
+      (are.by j (get_or signatures j []) (slice_get-get_or signatures j [] within)).signs;
+}

@@ -15,7 +15,7 @@ use Rattle.dn_server.specs.declared.run.Stage.TheVariants as stages
 use Rattle.dn_server.specs.declared.run.Sum.{Sum}
 use Rattle.dn_server.specs.Server.{ServerView, servers_in, AreKept}
 use Rattle.dn_server.specs.Keeping.{IsMissing}
-use Rattle.dn_rounds.specs.Going.{IsBodyDue, IsUnopposed, HasLeaf, Stands, says, with_past}
+use Rattle.dn_rounds.specs.Going.{IsBodyDue, IsUnopposed, HasLeaf, Stands, says, with_past, past_with}
 use Rattle.dn_rounds.specs.Going.Step.{commits, reveals, signs, signs_thin, certifies, commit_conflicts, reveal_conflicts, body_opposed, thin_opposed}
 use Rattle.dn_server.specs.Parts.{live}
 use Rattle.dn_rounds.specs.Sound.{Stepped, BecameSigned, has_moved, with_past_if}
@@ -89,6 +89,6 @@ sign_stepped old mid new before after sum b at dues.Said w e = (
   w.3,
   signs sum b at w.0 w.1 refl
       (ap live (e ∙ ap (λ m. with_past_if dues.Said m (record { body = b; s = sum.s; own = sum.own })) w.2)
-      ∙ ap (λ x. with_past (says (live old) (kinds.Sign b) stages.Signed x) sum b) at.has),
+      ∙ ap (λ x. with_past (says (live old) (kinds.Sign b) stages.Signed x) (past_with sum b)) at.has),
 )
 sign_stepped old mid new before after sum b at dues.Stuck w e = (e ∙ w.2, w.3, stuck_at_sign (live old) sum b at w.0 w.1)

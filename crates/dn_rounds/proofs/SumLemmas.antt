@@ -5,7 +5,8 @@ use Rattle.std.proofs.lemmas.List.{length-map}
 use Rattle.std.proofs.lemmas.List.FromFn.{length-range_with_len}
 use Rattle.std.proofs.lemmas.List.Elements.{All-cons, All-nil, All-append}
 use Rattle.dn_bits.specs.Bits.{sum_bits, flip_at, bit, below}
-use Rattle.dn_combine.proofs.Sums.{Long, pads_of, pads_long, length-sum_all}
+use Rattle.dn_combine.specs.Parts.{pads_of}
+use Rattle.dn_combine.proofs.Sums.{Long, pads_long, length-sum_all}
 use Rattle.dn_record_types.specs.declared.body.Listed.{Listed}
 use Rattle.dn_record_types.specs.declared.shown.ShownCipher.{ShownCipher}
 use Rattle.dn_server.specs.Justified.{Seat, Course, AreOfRows, pad_with, server_string}

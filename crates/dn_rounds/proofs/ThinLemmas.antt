@@ -12,10 +12,10 @@ use Rattle.dn_rounds.specs.declared.going.Due.{Due}
 use Rattle.dn_rounds.specs.declared.going.Due.TheVariants as dues
 use Rattle.dn_server.specs.declared.parts.Parts.{Parts}
 use Rattle.dn_server.specs.Server.{ServerView}
-use Rattle.dn_rounds.specs.Going.{IsThinDue, IsUnopposed, HasLeaf, Stands}
+use Rattle.dn_rounds.specs.Going.{IsThinDue, IsUnopposed, HasLeaf, Stands, thin_past}
 use Rattle.dn_rounds.specs.Going.Step.{commits, reveals, signs, signs_thin, certifies, commit_conflicts, reveal_conflicts, body_opposed, thin_opposed}
 use Rattle.dn_server.specs.Parts.{live}
-use Rattle.dn_rounds.specs.Sound.{Stepped, BecameSigned, has_moved}
+use Rattle.dn_rounds.specs.Sound.{Stepped, BecameSigned, has_moved, with_past_if}
 use Rattle.dn_rounds.proofs.CommitLemmas.{InventoriesFit, listing_one, never_both}
 
 -- one body without data is due
@@ -37,11 +37,12 @@ module _ (v : ServerView) where
   stuck_at_thin c fit at free leaf did after (thin_opposed b j other d f e g) = f.differs (free j other f.within f.signed ∙ thin_one v c b fit at d)
 
 -- what became of the body without data that is due is a step, or none is possible
-pub thin_stepped : (old new : Parts) (before after : List Act) (b : Body) → InventoriesFit (live old) → IsThinDue (live old) b → (due : Due)
-    → BecameSigned b old new before after due → Stepped old new before after (has_moved due)
-thin_stepped old new before after b fit at dues.Opposed w = (_, w.4, thin_opposed b w.0 w.1 at w.2 refl (ap live w.3))
-thin_stepped old new before after b fit at dues.Said w = (_, w.3, signs_thin b at w.0 w.1 refl (ap live w.2))
-thin_stepped old new before after b fit at dues.Stuck w = (w.2, w.3, stuck_at_thin (live old) b fit at w.0 w.1)
+pub thin_stepped : (old mid new : Parts) (before after : List Act) (b : Body) → InventoriesFit (live old) → IsThinDue (live old) b → (due : Due)
+    → BecameSigned b old mid before after due → new ≡ with_past_if due mid (thin_past b) → Stepped old new before after (has_moved due)
+thin_stepped old mid new before after b fit at dues.Opposed w e = (_, w.4, thin_opposed b w.0 w.1 at w.2 refl (ap live (e ∙ w.3)))
+thin_stepped old mid new before after b fit at dues.Said w e =
+    (_, w.3, signs_thin b at w.0 w.1 refl (ap live (e ∙ ap (λ m. with_past_if dues.Said m (thin_past b)) w.2)))
+thin_stepped old mid new before after b fit at dues.Stuck w e = (e ∙ w.2, w.3, stuck_at_thin (live old) b fit at w.0 w.1)
 
 -- clients that ascend below a number are no more than it
 pub ascend_few : (floor n : ℕ) (ids : List ClientId) → AscendFrom floor ids → All (λ i. i.0 < n) ids → length ids ≤ n - floor

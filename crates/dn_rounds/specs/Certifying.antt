@@ -2,11 +2,8 @@
 use Rattle.std.specs.Prelude.{◌≡◌, ℕ, ◌<◌, ◌≤◌, List, [], length, Some, IsSome, option_map, slice_get, slice_index_or, true, if◌then◌else◌}
 use Rattle.dn_record_types.specs.declared.body.Body.{Body}
 use Rattle.dn_record_types.specs.declared.statement.Statement.TheVariants as kinds
-use Rattle.dn_records.specs.Records.{envelope_bytes}
 use Rattle.dn_roster.specs.Roster.{RosterView, digest_of}
-use Rattle.dn_seal.specs.Dealt.{server}
-use Rattle.dn_seal.specs.Said.{SaidView, Signs}
-use Rattle.dn_seal.specs.Signer.{envelope}
+use Rattle.dn_seal.specs.Said.{SaidView}
 use Rattle.dn_cert.specs.Signed.{SignsBody}
 use Rattle.dn_records.specs.Records.{IsPayload}
 use Rattle.dn_record_types.specs.declared.payload.Payload.TheVariants as payloads
@@ -23,14 +20,9 @@ use Rattle.dn_server.specs.declared.act.Act.{Act}
 use Rattle.dn_server.specs.declared.run.Run.{Run}
 use Rattle.dn_server.specs.Server.{kept_of, statement_of, servers_in}
 
--- the signature is that of an envelope whose signature verified
-pub record IsSignatureOf (said : SaidView) (signature : List ℕ) : Type 0 where
-  pub spelled : said.bytes ≡ envelope_bytes (envelope said.signer said.statement signature)
-  pub verifies : Signs said.digest said.key (envelope said.signer said.statement signature)
-
 -- the signature of server j on the body, which is kept and verifies under the roster
 pub record IsSignatureBy (roster : RosterView) (kept : List SaidView) (b : Body) (j : ℕ) (signature : List ℕ) : Type 0 where
-  pub kept_so : option_map (λ s. s.bytes) (kept_of kept 6 j) ≡ Some (envelope_bytes (envelope (server j) (kinds.Sign b) signature))
+  pub kept_so : option_map (λ s. s.signature) (kept_of kept 6 j) ≡ Some signature
   pub signs : SignsBody (digest_of roster) (slice_index_or roster.servers j []) j b signature
   pub short : length signature < 65536
 

@@ -7,10 +7,8 @@ use Rattle.dn_record_types.specs.declared.body.Listed.{Listed}
 use Rattle.dn_record_types.specs.declared.inventory.Inventory.{Inventory}
 use Rattle.dn_record_types.specs.declared.statement.Statement.{Statement}
 use Rattle.dn_record_types.specs.declared.statement.Statement.TheVariants as kinds
-use Rattle.dn_records.specs.Records.{statement_bytes, body_bytes, kind_byte, payload_bytes, envelope_bytes}
+use Rattle.dn_records.specs.Records.{statement_bytes, body_bytes, kind_byte, payload_bytes}
 use Rattle.dn_record_types.specs.declared.payload.Payload.TheVariants as payloads
-use Rattle.dn_seal.specs.Dealt.{server}
-use Rattle.dn_seal.specs.Signer.{envelope}
 use Rattle.dn_seal.specs.Said.{SaidView}
 use Rattle.dn_cert.specs.Certificate.{CertificateView, IsCertificate, IsCertificateUnder}
 use Rattle.dn_cert.specs.Chain.{CanFollow, with_held, count_at}
@@ -19,6 +17,7 @@ use Rattle.dn_cert.specs.Trim.{IsTrim, given_to}
 use Rattle.dn_server.specs.declared.act.Act.{Act}
 use Rattle.dn_server.specs.declared.act.Act.TheVariants as acts
 use Rattle.dn_server.specs.declared.act.SpoilReason.TheVariants as reasons
+use Rattle.dn_server.specs.declared.past.Past.{Past}
 use Rattle.dn_server.specs.declared.run.Stage.{Stage}
 use Rattle.dn_server.specs.declared.run.Stage.TheVariants as stages
 use Rattle.dn_server.specs.declared.run.Sum.{Sum}
@@ -129,27 +128,35 @@ says v s stage sum =
 abbrev pub unbent : ServerView → ServerView
 unbent v = record v { bend = None }
 
-abbrev pub with_past : ServerView → Sum → Body → ServerView
-with_past v sum b = record v { pasts = v.pasts ++ record { body = b; s = sum.s; own = sum.own } ∷ [] }
+-- what is kept of a body with data that was signed
+abbrev pub past_with : Sum → Body → Past
+past_with sum b = record { body = b; s = sum.s; own = sum.own }
+
+-- what is kept of one without data
+abbrev pub thin_past : Body → Past
+thin_past b = record { body = b; s = []; own = [] }
+
+abbrev pub with_past : ServerView → Past → ServerView
+with_past v past = record v { pasts = v.pasts ++ past ∷ [] }
 
 -- a leaf is left
 abbrev pub HasLeaf : ServerView → Type 0
-HasLeaf v = v.drawn < leaf_count v.key
+HasLeaf v = length v.signed < leaf_count v.key
 
 -- The certificate of the body with the signatures that are kept, by server.
 pub record IsCertificateOf (v : ServerView) (b : Body) (c : CertificateView) : Type 0 where
   pub signatures : List (List ℕ)
   pub certificate : IsCertificate c
-  pub under : IsUnder v.seat.roster c
+  pub under : IsCertificateUnder v.seat.roster c
   pub body : c.body ≡ b
   pub bytes : c.bytes ≡ payload_bytes (payloads.Certificate b signatures)
   pub each : length signatures ≡ servers_in v
   pub kept : (j : ℕ) (signature : List ℕ) → slice_get signatures j ≡ Some signature
-      → option_map (λ s. s.bytes) (kept_of v.run.kept 6 j) ≡ Some (envelope_bytes (envelope (server j) (kinds.Sign b) signature))
+      → option_map (λ s. s.signature) (kept_of v.run.kept 6 j) ≡ Some signature
 
 -- the certificate is held, and the run ends
 abbrev pub certified : ServerView → CertificateView → ServerView
-certified v c = record (ended v) { chain = record v.chain { held = with_held c v.chain.held } }
+certified v c = record (ended v) { chain = record v.chain { held = with_held c.body v.chain.held } }
 
 -- One step: what is due is signed and posted, or what stands in its way ends the run, or the round is certified.
 pub data Step (v : ServerView) (did : List Act) (after : ServerView) : Type 0 where
@@ -161,10 +168,10 @@ pub data Step (v : ServerView) (did : List Act) (after : ServerView) : Type 0 wh
       → after ≡ says v (kinds.Reveal v.run.r sum.s) stages.Revealed (Some sum) → Step v did after
   signs : (sum : Sum) (b : Body) → IsBodyDue v sum b → IsUnopposed v b → HasLeaf v
       → did ≡ post_next v (others_of v.seat) (kinds.Sign b) ∷ []
-      → after ≡ with_past (says v (kinds.Sign b) stages.Signed (Some sum)) sum b → Step v did after
+      → after ≡ with_past (says v (kinds.Sign b) stages.Signed (Some sum)) (past_with sum b) → Step v did after
   signs_thin : (b : Body) → IsThinDue v b → IsUnopposed v b → HasLeaf v
       → did ≡ post_next v (others_of v.seat) (kinds.Sign b) ∷ []
-      → after ≡ says v (kinds.Sign b) stages.Signed v.run.sum → Step v did after
+      → after ≡ with_past (says v (kinds.Sign b) stages.Signed v.run.sum) (thin_past b) → Step v did after
   certifies : (b : Body) (c : CertificateView) → IsAgreed v b → IsCertificateOf v b c → CanFollow v.chain c.body
       → did ≡ acts.Certified c ∷ acts.Post (everyone_of v.seat) c.bytes ∷ []
       → after ≡ certified v c → Step v did after

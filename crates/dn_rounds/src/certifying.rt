@@ -13,31 +13,16 @@ ghost use Rattle.dn_record_types.specs.declared.statement.Statement.TheVariants 
 ghost use Rattle.dn_roster.specs.Roster.{RosterView};
 ghost use Rattle.dn_seal.specs.Said.{IsSaid, IsUnder};
 ghost use Rattle.dn_server.specs.Server.{kept_of, statement_of, servers_in, everyone_of, client_member, server_member};
-ghost use Rattle.dn_rounds.specs.Certifying.{IsSignatureOf, IsSignatureBy, AreSignatures, IsCertifiable};
+ghost use Rattle.dn_rounds.specs.Certifying.{IsSignatureBy, AreSignatures, IsCertifiable};
 
-use crate::act::Act;
 use crate::gathering::body_by;
-use crate::kept::{Kept, RoundKind};
-use crate::parts::Parts;
-use crate::run::Stage;
-use crate::saying::{end_run, other_servers};
-use dn_cert::{Certificate, check};
+use dn_cert::{Certificate, HoldFault, certify};
 use dn_memory::NoMemory;
-use dn_records::{Body, ByteLists, Payload, decode_envelope, encode_payload};
+use dn_records::{Body, ByteLists};
 use dn_roster::Roster;
-use dn_seal::Said;
+use dn_server::{Act, Kept, Parts, RoundKind, Stage, end_run, other_servers};
 use dn_wire::{Bytes, ClientId, Member, MemberList, ServerId};
 use std::alloc::Global;
-
-/// The signature of an envelope whose signature verified.
-pub(crate) fn signature_of(alloc: Global, said: &Said) -> Result<Bytes, NoMemory>
-    ensures { IfOk result (IsSignatureOf said.now) }
-{
-    match decode_envelope(alloc, said.bytes()) {
-        Ok(envelope) => Ok(envelope.signature),
-        Err(_) => Err(NoMemory),
-    }
-}
 
 /// The signature of server `j` on the body.
 fn signature_by(
@@ -54,7 +39,7 @@ fn signature_by(
     let Some(said) = kept.of(RoundKind::Sign, j) else {
         unreachable!()
     };
-    signature_of(alloc, said)
+    Ok(Bytes::of(Vec::from_slice(alloc, said.signature())?))
 }
 
 /// The signatures of `n` servers on the body.
@@ -89,15 +74,7 @@ fn certificate(parts: &Parts, b: &Body) -> Result<Certificate, NoMemory>
     let alloc = parts.alloc;
     let roster = parts.identity.roster();
     let signatures = signatures(alloc, roster, &parts.run.kept, b, roster.servers())?;
-    let payload = Payload::Certificate {
-        body: b.copy(alloc)?,
-        signatures: ByteLists::of(signatures),
-    };
-    let bytes = encode_payload(alloc, &payload)?;
-    match check(alloc, roster, &bytes) {
-        Ok(certificate) => Ok(certificate),
-        Err(_) => Err(NoMemory),
-    }
+    certify(alloc, roster, b.copy(alloc)?, ByteLists::of(signatures))
 }
 
 /// All clients and the other servers, each by number.
@@ -118,14 +95,21 @@ fn everyone(
     Ok(MemberList::of(members))
 }
 
+/// The only reason why a certificate that can follow isn't held.
+fn only_memory(_fault: HoldFault) -> NoMemory
+    requires { _fault ≡ HoldFault.NoMemory }
+{
+    NoMemory
+}
+
 /// Holds a certificate that can follow.
 fn hold(parts: &mut Parts, c: Certificate) -> Result<(), NoMemory>
     requires { CanFollow parts.old.chain c.body }
-    ensures { OnOk result (parts.new ≡ record parts.old { chain = record parts.old.chain { held = with_held c parts.old.chain.held } }) }
+    ensures { OnOk result (parts.new ≡ record parts.old { chain = record parts.old.chain { held = with_held c.body parts.old.chain.held } }) }
 {
     match parts.chain.hold(parts.alloc, c) {
         Ok(()) => Ok(()),
-        Err(_) => Err(NoMemory),
+        Err(fault) => Err(only_memory(fault)),
     }
 }
 
@@ -152,7 +136,7 @@ fn announce(parts: &mut Parts, acts: &mut Vec<Act>, c: Certificate) -> Result<()
 }
 
 /// With all servers' signatures of the body that the server signed, the round is certified.
-pub(crate) fn certify(parts: &mut Parts, acts: &mut Vec<Act>) -> Result<bool, NoMemory>
+pub(crate) fn certify_round(parts: &mut Parts, acts: &mut Vec<Act>) -> Result<bool, NoMemory>
     requires stage { parts.old.run.stage ≡ Stage.Signed }
     requires sound { AreSound (live parts.old) parts.old.run.kept }
     requires own { IsSome (kept_of parts.old.run.kept 6 parts.old.identity.number) }

@@ -13,13 +13,9 @@ ghost use Rattle.dn_rounds.specs.Going.{turned, IsSum, IsListing, commitment_of}
 ghost use Rattle.dn_server.specs.Parts.{live};
 ghost use Rattle.dn_rounds.specs.Sound.{IsClaimed, AreClaimed, IsSayable, ListingsFit, AreSound, Stepped, with_sum_if, ThinBodiesFit};
 
-use crate::act::Act;
 use crate::gathering::inventories;
 use crate::going::{Due, has_moved, say_due};
-use crate::kept::RoundKind;
-use crate::parts::Parts;
-use crate::run::{Run, Stage, Sum};
-use crate::signing::sign_due;
+use crate::signing::{keep_past, sign_due, thin_past};
 use dn_bits::Bits;
 use dn_cert::{is_due_thin, make_body, trim};
 use dn_combine::server_sum;
@@ -27,6 +23,7 @@ use dn_hash::server_digest;
 use dn_memory::NoMemory;
 use dn_pads::Seed;
 use dn_records::{Listed, Rows, ShownCipher, Shows, Statement};
+use dn_server::{Act, Parts, RoundKind, Run, Stage, Sum};
 use dn_wire::{Round, ServerId};
 use std::alloc::Global;
 use std::thread::Threads;
@@ -43,7 +40,7 @@ fn list(parts: &Parts) -> Result<Vec<Listed>, NoMemory>
 }
 
 /// The ciphertext that is claimed for a row of a list.
-fn cipher_for(run: &Run, row: &Listed) -> Result<ShownCipher, NoMemory>
+fn cipher_for(alloc: Global, run: &Run, row: &Listed) -> Result<ShownCipher, NoMemory>
     requires { IsClaimed run.now row.now }
     ensures of_row { IfOk result (IsOfRow (course_of run.now) row.now) }
     ensures told { IfOk result (λ s. WasIncluded run.now (submission_of (course_of run.now) row.now) s.cipher) }
@@ -53,7 +50,7 @@ fn cipher_for(run: &Run, row: &Listed) -> Result<ShownCipher, NoMemory>
     };
     Ok(ShownCipher {
         client: row.client,
-        cipher: claim.cipher.copy()?,
+        cipher: claim.cipher.copy(alloc)?,
     })
 }
 
@@ -71,7 +68,7 @@ fn own_ciphers(
     let mut all = Vec::new(alloc);
     for row in listed {
         if row.server.0 == own.0 {
-            let cipher = cipher_for(run, row)?;
+            let cipher = cipher_for(alloc, run, row)?;
             all.push(cipher)?;
         }
     }
@@ -96,7 +93,7 @@ fn strings_of(alloc: Global, shown: &[ShownCipher]) -> Result<Vec<Bits>, NoMemor
 {
     let mut all = Vec::new(alloc);
     for cipher in shown {
-        all.push(cipher.cipher.copy()?)?;
+        all.push(cipher.cipher.copy(alloc)?)?;
     }
     Ok(all)
 }
@@ -221,7 +218,9 @@ fn sign_thin(parts: &mut Parts, acts: &mut Vec<Act>, listed: &[Listed]) -> Resul
         &out,
         true,
     )?;
+    let past = thin_past(parts.alloc, &body)?;
     let due = sign_due(parts, acts, body)?;
+    keep_past(parts, due, past)?;
     Ok(has_moved(due))
 }
 

@@ -6,15 +6,15 @@ ghost use Rattle.dn_record_types.specs.declared.statement.Statement.TheVariants 
 ghost use Rattle.dn_server.specs.Server.{kept_of, statement_of, AreKept};
 ghost use Rattle.dn_server.specs.Keeping.{AreOfRound, HasAll};
 
-use crate::kept::{Kept, RoundKind};
 use dn_bits::Bits;
 use dn_memory::NoMemory;
 use dn_records::{Body, Inventory, Statement};
+use dn_server::{Kept, RoundKind};
 use dn_wire::{Round, ServerId};
 use std::alloc::Global;
 
 /// Server `j`'s inventory.
-pub(crate) fn inventory_by(kept: &Kept, j: ServerId) -> &Inventory
+pub fn inventory_by(kept: &Kept, j: ServerId) -> &Inventory
     requires { IsSome (kept_of kept.now 3 j.0) }
     ensures value { statement_of kept.now 3 j.0 ≡ Some (kinds.Inventory result.now) }
     ensures fits { IsInventory result.now }
@@ -29,7 +29,7 @@ pub(crate) fn inventory_by(kept: &Kept, j: ServerId) -> &Inventory
 }
 
 /// The digest to which server `j` is committed.
-pub(crate) fn digest_by(kept: &Kept, _r: Round, j: ServerId) -> [u8; 32]
+pub fn digest_by(kept: &Kept, _r: Round, j: ServerId) -> [u8; 32]
     requires round { AreOfRound _r kept.now }
     requires one { IsSome (kept_of kept.now 4 j.0) }
     ensures { statement_of kept.now 4 j.0 ≡ Some (kinds.Commit _r result) }
@@ -44,7 +44,7 @@ pub(crate) fn digest_by(kept: &Kept, _r: Round, j: ServerId) -> [u8; 32]
 }
 
 /// Server `j`'s ciphertext.
-pub(crate) fn string_by(kept: &Kept, _r: Round, j: ServerId) -> &Bits
+pub fn string_by(kept: &Kept, _r: Round, j: ServerId) -> &Bits
     requires round { AreOfRound _r kept.now }
     requires one { IsSome (kept_of kept.now 5 j.0) }
     ensures { statement_of kept.now 5 j.0 ≡ Some (kinds.Reveal _r result.now) }
@@ -59,7 +59,7 @@ pub(crate) fn string_by(kept: &Kept, _r: Round, j: ServerId) -> &Bits
 }
 
 /// The body that server `j` signed.
-pub(crate) fn body_by(kept: &Kept, j: ServerId) -> &Body
+pub fn body_by(kept: &Kept, j: ServerId) -> &Body
     requires { IsSome (kept_of kept.now 6 j.0) }
     ensures value { statement_of kept.now 6 j.0 ≡ Some (kinds.Sign result.now) }
     ensures fits { IsBody result.now }
@@ -113,7 +113,7 @@ pub(crate) fn strings(alloc: Global, kept: &Kept, r: Round, n: u32) -> Result<Ve
 {
     let mut all = Vec::new(alloc);
     for j in 0..n {
-        let s = string_by(kept, r, ServerId(j)).copy()?;
+        let s = string_by(kept, r, ServerId(j)).copy(alloc)?;
         all.push(s)?;
     }
     Ok(all)

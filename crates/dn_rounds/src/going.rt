@@ -11,18 +11,15 @@ ghost use Rattle.dn_rounds.specs.Sound.{IsSeated, AreSound, StringsFit, HasSum, 
 ghost use Rattle.dn_seal.specs.Dealt.{server};
 ghost use Rattle.dn_seal.specs.Signer.{CanSign};
 
-use crate::act::{Act, SpoilReason};
-use crate::kept::RoundKind;
-use crate::parts::Parts;
-use crate::run::Stage;
-use crate::saying::{say, spoil};
+use crate::saying::say;
 use dn_bits::Bits;
 use dn_memory::NoMemory;
 use dn_records::{Statement, encode};
+use dn_server::{Act, Parts, RoundKind, SpoilReason, Stage, spoil};
 use dn_wire::Round;
 
 /// A different statement of the kind that is kept under the server's own number.
-fn conflict<'a>(parts: &'a Parts, kind: RoundKind, s: &Statement) -> Option<&'a Statement>
+pub fn conflict<'a>(parts: &'a Parts, kind: RoundKind, s: &Statement) -> Option<&'a Statement>
     requires { kind_byte s.now ≡ byte_for kind }
     ensures other { MatchOption result (IsFree (live parts.now) s.now) (λ o. Conflicts (live parts.now) s.now o.now) }
     ensures fits { IfSome result (λ o. IsStatement o.now) }
@@ -76,7 +73,7 @@ pub(crate) fn has_moved(due: Due) -> bool
 }
 
 /// Says a statement that is due, unless another one of its kind is kept under the server's own number.
-pub(crate) fn say_due(
+pub fn say_due(
     parts: &mut Parts,
     acts: &mut Vec<Act>,
     kind: RoundKind,
@@ -116,7 +113,7 @@ fn revealed(parts: &Parts) -> Result<Statement, NoMemory>
     let Some(sum) = &parts.run.sum else {
         unreachable!()
     };
-    let s = sum.s.copy()?;
+    let s = sum.s.copy(parts.alloc)?;
     Ok(reveal_of(parts.identity.number().0, parts.run.r.0, s))
 }
 

@@ -7,23 +7,21 @@ ghost use Rattle.dn_record_types.specs.declared.statement.Statement.TheVariants 
 ghost use Rattle.dn_server.specs.declared.run.Sum.{Sum as SumOf};
 ghost use Rattle.dn_server.specs.Server.{statement_of, servers_in};
 ghost use Rattle.dn_server.specs.Keeping.{HasAll};
-ghost use Rattle.dn_rounds.specs.Going.{IsBodyDue, IsFirstAgainst, IsUnopposed};
+ghost use Rattle.dn_rounds.specs.Going.{IsBodyDue, IsFirstAgainst, IsUnopposed, past_with, thin_past};
 ghost use Rattle.dn_server.specs.Parts.{live};
 ghost use Rattle.dn_rounds.specs.Sound.{AreSound, StringsFit, HasSum, Stepped, IsSayable, BodiesFit, SignsOther, BecameSigned, with_past_if};
 
-use crate::act::{Act, SpoilReason};
 use crate::gathering::{body_by, digests, strings};
 use crate::going::{Due, has_moved};
-use crate::kept::RoundKind;
-use crate::parts::Parts;
-use crate::past::Past;
-use crate::run::Stage;
-use crate::saying::{say, spoil};
+use crate::saying::say;
+use dn_bits::Bits;
 use dn_cert::make_body;
 use dn_combine::combine;
 use dn_memory::NoMemory;
-use dn_records::{Body, Statement, encode_body};
+use dn_records::{Body, Shows, Statement, encode_body};
+use dn_server::{Act, Parts, Past, RoundKind, SpoilReason, Stage, spoil};
 use dn_wire::ServerId;
+use std::alloc::Global;
 
 /// Whether server `j` signed another body.
 fn signs_other(parts: &Parts, body: &Body, j: ServerId) -> bool
@@ -105,22 +103,33 @@ fn due_body(parts: &Parts) -> Result<Body, NoMemory>
 }
 
 /// What is to be kept of a body.
-fn past_of(parts: &Parts, body: &Body) -> Result<Past, NoMemory>
+fn past_with(parts: &Parts, body: &Body) -> Result<Past, NoMemory>
     requires { HasSum parts.now.run }
-    ensures { (sum : SumOf) → parts.now.run.sum ≡ Some sum → IfOk result (λ past. past ≡ record { body = body.now; s = sum.s; own = sum.own }) }
+    ensures { (sum : SumOf) → parts.now.run.sum ≡ Some sum → IfOk result (λ past. past ≡ past_with sum body.now) }
 {
     let Some(sum) = &parts.run.sum else {
         unreachable!()
     };
     Ok(Past {
         body: body.copy(parts.alloc)?,
-        s: sum.s.copy()?,
+        s: sum.s.copy(parts.alloc)?,
         own: sum.own.copy(parts.alloc)?,
     })
 }
 
+/// What is to be kept of a body without data.
+pub(crate) fn thin_past(alloc: Global, body: &Body) -> Result<Past, NoMemory>
+    ensures { IfOk result (λ past. past ≡ thin_past body.now) }
+{
+    Ok(Past {
+        body: body.copy(alloc)?,
+        s: Bits::zeros(alloc, 0)?,
+        own: Shows::of(Vec::new(alloc)),
+    })
+}
+
 /// Keeps what is to be kept of a body, where it was said.
-fn keep_past(parts: &mut Parts, due: Due, past: Past) -> Result<(), NoMemory>
+pub(crate) fn keep_past(parts: &mut Parts, due: Due, past: Past) -> Result<(), NoMemory>
     ensures { OnOk result (parts.new ≡ with_past_if due parts.old past) }
 {
     match due {
@@ -144,7 +153,7 @@ pub(crate) fn sign(parts: &mut Parts, acts: &mut Vec<Act>) -> Result<bool, NoMem
         return Ok(false);
     }
     let body = due_body(parts)?;
-    let past = past_of(parts, &body)?;
+    let past = past_with(parts, &body)?;
     let due = sign_due(parts, acts, body)?;
     keep_past(parts, due, past)?;
     Ok(has_moved(due))

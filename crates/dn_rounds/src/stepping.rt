@@ -6,14 +6,12 @@ ghost use Rattle.dn_server.specs.Parts.{live};
 ghost use Rattle.dn_rounds.specs.Sound.{AreSound, Stepped};
 ghost use Rattle.dn_rounds.specs.Certifying.{CanStep, IsSteady};
 
-use crate::act::Act;
-use crate::certifying::certify;
+use crate::certifying::certify_round;
 use crate::committing::list_up;
 use crate::going::reveal;
-use crate::parts::Parts;
-use crate::run::Stage;
 use crate::signing::sign;
 use dn_memory::NoMemory;
+use dn_server::{Act, Parts, Stage};
 use std::thread::Threads;
 
 /// Takes the step that is due, and says whether there was one.
@@ -31,12 +29,12 @@ pub(crate) fn step<R: Threads + Sync>(
         Stage::Listed => list_up(rt, parts, acts),
         Stage::Committed => reveal(parts, acts),
         Stage::Revealed => sign(parts, acts),
-        Stage::Signed => certify(parts, acts),
+        Stage::Signed => certify_round(parts, acts),
     }
 }
 
 /// Goes on as far as the server can: until the run has ended, or no step is possible.
-pub(crate) fn go_on<R: Threads + Sync>(
+pub fn go_on<R: Threads + Sync>(
     rt: &R,
     parts: &mut Parts,
     acts: &mut Vec<Act>,

@@ -21,7 +21,7 @@ two before middle after x a to to' bytes bytes' first second same members payloa
 pub returns-clause-told : goal.returns-clause-told
 unfolding all_of
 returns-clause-told c =
-    let roster = c.roster-roster.ensures in
+    let roster = c.roster-roster.ensures.value in
     let clients = c.clients.ensures.value ∙ ap (λ (r : RosterView). length r.clients) roster in
     let servers = c.servers.ensures.value ∙ ap (λ (r : RosterView). length r.servers) roster in
     let own = c.number.ensures in

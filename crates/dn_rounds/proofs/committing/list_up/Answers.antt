@@ -13,7 +13,7 @@ use Rattle.dn_rounds.proofs.committing.list_up.Goals as goal
 pub returns-then-not-is_full : goal.returns-then-not-is_full
 returns-then-not-is_full g c =
     let p = c.args.parts.now in
-    let n = c.servers-n.ensures.value ∙ ap (λ (r : RosterView). length r.servers) c.roster.ensures in
+    let n = c.servers-n.ensures.value ∙ ap (λ (r : RosterView). length r.servers) c.roster.ensures.value in
     let missing = subst (λ (k : ℕ). IsMissing 3 p.run.kept k) n (c.is_full.ensures.missing c.if-not-is_full.true) in
     let some : Inventory = record { r = record { 0 = 0 }; prev = record { 0 = 0 }; entries = [] } in
     (refl, refl, waits_for_inventories (live p) c.requires.stage missing some)

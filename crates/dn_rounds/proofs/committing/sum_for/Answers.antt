@@ -2,7 +2,8 @@ use Rattle.std.proofs.Common.{◌≡◌, ◌∙◌, ◌++◌, map, ap, subst, sy
 use Rattle.std.specs.Prelude.{All}
 use Rattle.dn_bits.specs.Bits.{sum_bits}
 use Rattle.dn_cert.specs.Trim.{given_to}
-use Rattle.dn_combine.proofs.Sums.{Long, pads_of}
+use Rattle.dn_combine.specs.Parts.{pads_of}
+use Rattle.dn_combine.proofs.Sums.{Long}
 use Rattle.dn_record_types.specs.declared.shown.ShownCipher.{ShownCipher}
 use Rattle.dn_server.specs.declared.run.Sum.{Sum}
 use Rattle.dn_server.specs.Justified.{AreOfRows, AreIncluded}

@@ -12,14 +12,14 @@ use Rattle.dn_rounds.proofs.going.reveal.Goals as goal
 pub returns-then-not-is_full : goal.returns-then-not-is_full
 returns-then-not-is_full c =
     let p = c.args.parts.now in
-    let n = c.servers-n.ensures.value ∙ ap (λ (r : RosterView). length r.servers) c.roster.ensures in
+    let n = c.servers-n.ensures.value ∙ ap (λ (r : RosterView). length r.servers) c.roster.ensures.value in
     let missing = subst (λ (k : ℕ). IsMissing 4 p.run.kept k) n (c.is_full.ensures.missing c.if-not-is_full.true) in
     (refl, refl, waits_for_commits (live p) c.requires.stage missing)
 
 pub returns : goal.returns
 returns c =
     let p = c.args.parts.now in
-    let n = c.servers-n.ensures.value ∙ ap (λ (r : RosterView). length r.servers) c.roster.ensures in
+    let n = c.servers-n.ensures.value ∙ ap (λ (r : RosterView). length r.servers) c.roster.ensures.value in
     let full = subst (λ (k : ℕ). HasAll 4 p.run.kept k) n (c.is_full.ensures.full c.if-not-is_full.false) in
     let digests = commits_kept p.run.r p.run.kept _ c.requires.sound.round full in
     let value = c.in_ok-s.ensures.value in

@@ -11,7 +11,7 @@ pub returns : goal.returns
 returns c =
     let p = c.args.parts.now in
     let run = p.run in
-    let n = c.servers-n.ensures.value ∙ ap (λ (r : RosterView). length r.servers) c.roster-roster.ensures in
+    let n = c.servers-n.ensures.value ∙ ap (λ (r : RosterView). length r.servers) c.roster-roster.ensures.value in
     let digests = c.in_ok-digests.digests.items in
     let strings = c.in_ok-strings.strings.items in
     let out = c.in_ok-out.ensures ∙ ap (sum_bits run.bits) c.deref.ensures.value in
@@ -26,7 +26,7 @@ returns c =
         commits = subst (λ k. AreKept (kinds.Commit run.r) 4 run.kept k digests) n c.in_ok-digests.ensures;
         reveals = subst (λ k. AreKept (kinds.Reveal run.r) 5 run.kept k strings) n c.in_ok-strings.ensures;
         is = is ∙ body_same run.r run.prev c.roster-roster.result.now.version p.identity.roster.version c.get.result.now c.in-Some.sum.listed
-            c.deref-2.result.now digests c.in_ok-out.out (sum_bits run.bits strings) (ap (λ (r : RosterView). r.version) c.roster-roster.ensures) c.get.ensures c.deref-2.ensures.value out;
+            c.deref-2.result.now digests c.in_ok-out.out (sum_bits run.bits strings) (ap (λ (r : RosterView). r.version) c.roster-roster.ensures.value) c.get.ensures c.deref-2.ensures.value out;
       },
     ))
     c.make_body.ensures

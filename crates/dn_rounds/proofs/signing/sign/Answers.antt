@@ -10,7 +10,7 @@ use Rattle.dn_rounds.proofs.signing.sign.Goals as goal
 pub returns-then-not-is_full : goal.returns-then-not-is_full
 returns-then-not-is_full c =
     let p = c.args.parts.now in
-    let n = c.servers-n.ensures.value ∙ ap (λ (r : RosterView). length r.servers) c.roster.ensures in
+    let n = c.servers-n.ensures.value ∙ ap (λ (r : RosterView). length r.servers) c.roster.ensures.value in
     let missing = subst (λ (k : ℕ). IsMissing 5 p.run.kept k) n (c.is_full.ensures.missing c.if-not-is_full.true) in
     (refl, refl, waits_for_reveals (live p) c.requires.stage missing)
 

@@ -10,8 +10,8 @@ use Rattle.dn_rounds.specs.Going.Step.{certifies}
 use Rattle.dn_server.specs.Parts.{live}
 use Rattle.dn_rounds.specs.Certifying.{IsCertifiable}
 use Rattle.dn_rounds.proofs.CertifyLemmas.{all_sign}
-use Rattle.dn_rounds.proofs.certifying.certify.Goals as goal
-use Rattle.dn_rounds.proofs.certifying.certify.Goals.{In_ok-body}
+use Rattle.dn_rounds.proofs.certifying.certify_round.Goals as goal
+use Rattle.dn_rounds.proofs.certifying.certify_round.Goals.{In_ok-body}
 
 -- the body that the server signed
 own : (c : In_ok-body) → statement_of c.args.parts.now.run.kept 6 c.args.parts.now.identity.number ≡ Some (kinds.Sign c.in_ok-body.body)
@@ -26,7 +26,7 @@ ready c = c.requires.ready c.in_ok-body.body (own c)
 signs : (c : In_ok-body) → (j : ℕ) → j < length c.args.parts.now.identity.roster.servers → statement_of c.args.parts.now.run.kept 6 j ≡ Some (kinds.Sign c.in_ok-body.body)
 signs c =
     let p = c.args.parts.now in
-    let n = c.servers-n.ensures.value ∙ ap (λ (r : RosterView). length r.servers) c.roster.ensures in
+    let n = c.servers-n.ensures.value ∙ ap (λ (r : RosterView). length r.servers) c.roster.ensures.value in
     let full = subst (λ (k : ℕ). HasAll 6 p.run.kept k) n (c.is_full.ensures.full c.if-not-is_full.false) in
     all_sign p.run.kept (length p.identity.roster.servers) c.in_ok-body.body full (ready c).unopposed
 
