@@ -7,7 +7,7 @@ use Rattle.dn_io.proofs.EndLemmas.{not_read, not_written}
 use Rattle.dn_script.proofs.ScriptLaws.{script_spelled}
 use Rattle.dn_cmd.specs.Run.{script_task}
 use Rattle.dn_cmd.proofs.RunLemmas.{script_came, group_came, refused}
-use Rattle.dn_cmd.proofs.command.run.Goals as goal
+use Rattle.dn_cmd.proofs.running.run.Goals as goal
 
 pub returns-in-Err : goal.returns-in-Err
 returns-in-Err g c =
