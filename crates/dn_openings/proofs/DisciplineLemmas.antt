@@ -1,6 +1,6 @@
 -- The openings that a server signs keep its discipline.
 use Rattle.std.proofs.Common.{◌≡◌, ℕ, ◌<◌, Bool, false, List, [], ◌∷◌, ◌++◌, length, refl, sym, ap, ◌∙◌, subst, inl, inr}
-use Rattle.std.specs.Prelude.{Contains, All, Some, ◌⊎◌}
+use Rattle.std.specs.Prelude.{Contains, All, Some}
 use Rattle.std.proofs.lemmas.Option.{same_Some}
 use Rattle.std.proofs.lemmas.List.Elements.{Contains-push_cases}
 use Rattle.dn_wire.specs.declared.ids.Round.{Round}
@@ -14,7 +14,7 @@ use Rattle.dn_roster.specs.Roster.{key_of}
 use Rattle.dn_seal.specs.Dealt.{server}
 use Rattle.dn_seal.specs.Said.{SaidView, IsUnder}
 use Rattle.dn_trace.specs.Trial.{Says}
-use Rattle.dn_cert.specs.Chain.{ChainView, IsChain, bodies}
+use Rattle.dn_cert.specs.Chain.{IsChain, bodies}
 use Rattle.dn_cert.proofs.ChainLemmas.{one_body}
 use Rattle.dn_server.specs.declared.act.Act.{Act}
 use Rattle.dn_server.specs.declared.answer.Answer.{Answer}

@@ -6,3 +6,4 @@ pub mod PadLemmas
 pub mod OpenLemmas
 pub mod StayLemmas
 pub mod DisciplineLemmas
+pub mod FitLemmas

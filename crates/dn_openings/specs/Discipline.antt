@@ -1,5 +1,5 @@
 -- What holds of the openings that a server ever signed.
-use Rattle.std.specs.Prelude.{◌≡◌, ℕ, ◌<◌, ◌≤◌, Bool, false, List, length, All, Contains, Some}
+use Rattle.std.specs.Prelude.{◌≡◌, ℕ, ◌<◌, Bool, false, List, length, All, Contains, Some}
 use Rattle.dn_wire.specs.declared.ids.Round.{Round}
 use Rattle.dn_record_types.specs.declared.body.Body.{Body}
 use Rattle.dn_record_types.specs.declared.shown.ShownCipher.{ShownCipher}

@@ -1,11 +1,17 @@
 // Laws of the openings that a server signs, for those who build on them.
-ghost use Rattle.std.specs.Prelude.{◌≡◌, ℕ, Bool, List, Contains};
+ghost use Rattle.std.specs.Prelude.{◌≡◌, ◌<◌, ◌≤◌, ◌^◌, ℕ, Bool, List, map, length, All, Contains};
 ghost use Rattle.dn_wire.specs.declared.ids.Round.{Round};
+ghost use Rattle.dn_record_types.specs.Lists.{Ascend};
+ghost use Rattle.dn_record_types.specs.declared.body.Listed.{Listed};
 ghost use Rattle.dn_record_types.specs.declared.shown.ShownCipher.{ShownCipher};
 ghost use Rattle.dn_record_types.specs.declared.statement.Statement.TheVariants as kinds;
 ghost use Rattle.dn_seal.specs.Said.{SaidView, IsUnder};
+ghost use Rattle.dn_seal.specs.Dealt.{server};
+ghost use Rattle.dn_seal.specs.Signer.{CanSign};
+ghost use Rattle.dn_cert.specs.Trim.{given_to};
 ghost use Rattle.dn_cert.specs.Chain.{IsChain};
 ghost use Rattle.dn_server.specs.declared.answer.Answer.{Answer};
+ghost use Rattle.dn_server.specs.Justified.{Course, AreOfRows};
 ghost use Rattle.dn_server.specs.Server.{ServerView};
 ghost use Rattle.dn_openings.specs.Hearing.{HearsEvidence};
 ghost use Rattle.dn_openings.specs.Open.{CanOpen};
@@ -27,4 +33,12 @@ pub fn openings_stay()
         → CanOpen v → CanOpen after }
     ensures can { (v after : ServerView) → GoesOn v after → CanOpen v → CanOpen after }
     ensures keeps { (v after : ServerView) → GoesOn v after → KeepsOpenings v → KeepsOpenings after }
+{}
+
+/// The ciphertexts of a round that a server shows fit into an envelope, its own and those of the clients that a body gives to it, where the
+/// body's clients ascend and are few, and the ciphertexts have the round's length.
+pub fn shown_ciphertexts_fit()
+    ensures { (number : ℕ) (course : Course) (listed : List Listed) (s : List Bool) (own : List ShownCipher) → number < 2 ^ 32 → course.r.0 < 2 ^ 64
+        → course.bits ≤ 65536 → length listed ≤ 512 → Ascend (map (λ (l : Listed). l.client) listed) → All (λ (l : Listed). l.client.0 < 2 ^ 32) listed
+        → length s ≡ course.bits → AreOfRows course (given_to listed number) own → CanSign (server number) (kinds.Shown course.r s own) }
 {}

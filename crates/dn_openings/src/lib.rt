@@ -17,4 +17,4 @@ mod opening;
 mod pads;
 
 pub use evidence::hear;
-pub use laws::{openings_keep_discipline, openings_stay};
+pub use laws::{openings_keep_discipline, openings_stay, shown_ciphertexts_fit};
