@@ -27,7 +27,7 @@ use Rattle.dn_openings.specs.Challenging.{LooksAt, LooksAtAll, has_looked, waits
 use Rattle.dn_openings.specs.Accusing.{HasSigned, SignsAndKeeps, Shows, first_of_round, again, Opens, not_signed, not_valid, is_opened, is_spent, opens, shown_of, pads_at, opened_bits, with_opened}
 use Rattle.dn_openings.specs.Hearing.{not_held, repeats, keeps, repeats_it, keeps_it, HearsEvidence, of_no_use, opening, accusation, answers}
 use Rattle.dn_openings.specs.Open.{CanOpen, IsOpenPlace}
-use Rattle.dn_openings.specs.Discipline.{ArePads, AreShown, KeepsOpenings, GoesOn}
+use Rattle.dn_openings.specs.Discipline.{ArePads, AreShown, KeepsOpenings, LeavesOpenings, SignsNoOpenings}
 use Rattle.dn_openings.proofs.OpenLemmas.{signed_so, one_within}
 
 -- what discipline speaks of, but for what is signed
@@ -223,16 +223,16 @@ one_shown v keeps_v r s t own others p q =
     x.are ∙ ap shown_of same ∙ sym y.are
 
 -- what else a server does
-pub goes_on_keeps : (v after : ServerView) → GoesOn v after → KeepsOpenings v → KeepsOpenings after
-goes_on_keeps v after on keeps_v =
+pub leaves_keeps : (v after : ServerView) → LeavesOpenings v after → SignsNoOpenings v after → KeepsOpenings v → KeepsOpenings after
+leaves_keeps v after on quiet keeps_v =
     let is : IsBeside v after = record { seat = on.seat; held = on.held; pasts = on.pasts } in
     record {
-      pads = λ r k bits c. pads_beside v after is r k bits (keeps_v.pads r k bits (on.pads r k bits c));
-      shown = λ r s own c. shown_beside v after is r s own (keeps_v.shown r s own (on.shown r s own c));
+      pads = λ r k bits c. pads_beside v after is r k bits (keeps_v.pads r k bits (quiet.pads r k bits c));
+      shown = λ r s own c. shown_beside v after is r s own (keeps_v.shown r s own (quiet.shown r s own c));
     }
 
-pub goes_on_can : (v after : ServerView) → GoesOn v after → CanOpen v → CanOpen after
-goes_on_can v after on can =
+pub leaves_can : (v after : ServerView) → LeavesOpenings v after → CanOpen v → CanOpen after
+leaves_can v after on can =
     let is : IsBeside v after = record { seat = on.seat; held = on.held; pasts = on.pasts } in
     record {
       member = ap (λ (s : Seat). key_of s.roster (server s.number)) on.seat ∙ can.member ∙ ap (λ (k : Key). Some (public_key k)) (sym on.key);

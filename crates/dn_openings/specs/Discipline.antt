@@ -35,9 +35,9 @@ pub record KeepsOpenings (v : ServerView) : Type 0 where
   pub pads : (r : Round) (k : ℕ) (bits : List Bool) → Contains v.signed (kinds.PadBits r k bits) → ArePads v r k bits
   pub shown : (r : Round) (s : List Bool) (own : List ShownCipher) → Contains v.signed (kinds.Shown r s own) → AreShown v r s own
 
--- The server goes on otherwise: it signs no openings, opens no place and keeps none of them; it holds what it held, and more of its group; and it
+-- The server does something else: it opens no place and keeps none of its openings anew; it holds what it held, and more of its group; and it
 -- keeps its ciphertexts, and more that fit into an envelope.
-pub record GoesOn (v after : ServerView) : Type 0 where
+pub record LeavesOpenings (v after : ServerView) : Type 0 where
   pub seat : after.seat ≡ v.seat
   pub key : after.key ≡ v.key
   pub opened : after.opened ≡ v.opened
@@ -46,5 +46,8 @@ pub record GoesOn (v after : ServerView) : Type 0 where
   pub in_group : All (IsOfRoster after.seat.roster) (bodies after.chain)
   pub pasts : (r : ℕ) (past : Past) → past_of v.pasts r ≡ Some past → past_of after.pasts r ≡ Some past
   pub sizes : (past : Past) → Contains after.pasts past → CanSign (itself after) (shown_of past)
+
+-- it signs no openings
+pub record SignsNoOpenings (v after : ServerView) : Type 0 where
   pub pads : (r : Round) (k : ℕ) (bits : List Bool) → Contains after.signed (kinds.PadBits r k bits) → Contains v.signed (kinds.PadBits r k bits)
   pub shown : (r : Round) (s : List Bool) (own : List ShownCipher) → Contains after.signed (kinds.Shown r s own) → Contains v.signed (kinds.Shown r s own)

@@ -15,7 +15,7 @@ ghost use Rattle.dn_server.specs.Justified.{Course, AreOfRows};
 ghost use Rattle.dn_server.specs.Server.{ServerView};
 ghost use Rattle.dn_openings.specs.Hearing.{HearsEvidence};
 ghost use Rattle.dn_openings.specs.Open.{CanOpen};
-ghost use Rattle.dn_openings.specs.Discipline.{KeepsOpenings, GoesOn};
+ghost use Rattle.dn_openings.specs.Discipline.{KeepsOpenings, LeavesOpenings, SignsNoOpenings};
 
 /// A server that hears by the rules signs only openings of bodies that it holds and signed, with true pad bits and with its ciphertexts of those;
 /// and it signs one statement of pad bits for each place, and shows one list of ciphertexts for each round.
@@ -27,12 +27,12 @@ pub fn openings_keep_discipline()
         → Contains v.signed (kinds.Shown r s own) → Contains v.signed (kinds.Shown r t others) → kinds.Shown r s own ≡ kinds.Shown r t others }
 {}
 
-/// What a server keeps true of its openings stays true while it hears by the rules, and while it goes on otherwise.
+/// What a server keeps true of its openings stays true while it hears by the rules, and while it does something else.
 pub fn openings_stay()
     ensures hears { (v : ServerView) (said : SaidView) (answer : Answer) (after : ServerView) → HearsEvidence v said answer after → IsUnder v.seat.roster said
         → CanOpen v → CanOpen after }
-    ensures can { (v after : ServerView) → GoesOn v after → CanOpen v → CanOpen after }
-    ensures keeps { (v after : ServerView) → GoesOn v after → KeepsOpenings v → KeepsOpenings after }
+    ensures can { (v after : ServerView) → LeavesOpenings v after → CanOpen v → CanOpen after }
+    ensures keeps { (v after : ServerView) → LeavesOpenings v after → SignsNoOpenings v after → KeepsOpenings v → KeepsOpenings after }
 {}
 
 /// The ciphertexts of a round that a server shows fit into an envelope, its own and those of the clients that a body gives to it, where the
