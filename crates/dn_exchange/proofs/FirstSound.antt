@@ -17,6 +17,14 @@ use Rattle.dn_server.specs.declared.answer.Answer.{Answer}
 use Rattle.dn_server.specs.declared.claims.Claim.{Claim}
 use Rattle.dn_server.specs.declared.run.Run.{Run}
 use Rattle.dn_server.specs.Server.{ServerView}
+use Rattle.dn_bits.specs.Bits.{below}
+use Rattle.std.proofs.lemmas.List.{length-map}
+use Rattle.std.proofs.lemmas.List.FromFn.{length-range_with_len}
+use Rattle.dn_roster.specs.declared.group.GroupSpec.{GroupSpec}
+use Rattle.dn_roster.specs.Roster.{RosterView}
+use Rattle.dn_seal.specs.Dealt.{seed_dealt_to}
+use Rattle.dn_cert.specs.Certificate.{IsOfRoster}
+use Rattle.dn_exchange.specs.Making.{IsGroup, first_server}
 use Rattle.dn_exchange.specs.Opening.{Opens, IsOld, IsSmall, fresh_run, expected_by}
 use Rattle.dn_exchange.specs.Opening.Opens.{is_old, is_running, is_spent, opens}
 use Rattle.dn_exchange.specs.Invariant.{IsSound, IsRunning, IsCourse, AreClaims}
@@ -92,6 +100,27 @@ opens_sound v r a w s (opens prev layout new idle leaves latest after e f) few =
     let small : IsSmall w.run = elim few [ inl same ↦ absurd (apart (sym (ap (λ (x : ServerView). x.run.is_running) f) ∙ ap (λ (x : Run). x.is_running) same ∙ idle)) | inr h ↦ h ] in
     let there = subst (λ (x : ServerView). IsSmall x.run) f small in
     subst IsSound (sym f) (fresh_sound v r prev layout s new there.1 latest after there.0 (omega (arith, leaves)))
+  where
+    apart : true ≡ false → ⊥
+    apart h = cc
+
+-- a server as it is made
+pub first_sound : (group : GroupSpec) (roster : RosterView) (j workers : ℕ) → IsGroup group roster → j < group.servers → 1 ≤ workers → workers ≤ 16
+    → IsSound (first_server group roster j workers)
+first_sound group roster j workers is lt low high = record {
+  seated = record { roster = is.is; number = omega (arith, lt, is.servers); seeds = length-map (below group.clients) (λ (i : ℕ). seed_dealt_to group i j) ∙ length-range_with_len 0 group.clients ∙ sym is.clients };
+  workers = (low, high);
+  slots = sym is.clients;
+  in_group = All-nil (IsOfRoster roster);
+  window = length-replicate group.clients false ∙ sym is.clients;
+  claims = length-replicate group.clients (let none : Option Claim = None in none) ∙ sym is.clients;
+  are_claims = λ i c e. absurd (none_claimed group.clients i c e);
+  is_open = λ e. absurd (apart e);
+  round = All-nil (λ (x : SaidView). round_of x.statement ≡ Some (let first : Round = record { 0 = 0 } in first));
+  aside = λ b. omega arith;
+  some_aside = λ b e. absurd (apart e);
+  running = λ e. absurd (apart (sym e));
+}
   where
     apart : true ≡ false → ⊥
     apart h = cc

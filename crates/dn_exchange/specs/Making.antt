@@ -1,8 +1,8 @@
 -- A server as it is made.
-use Rattle.std.specs.Prelude.{ℕ, true, false, [], map, replicate, None}
+use Rattle.std.specs.Prelude.{◌≡◌, ℕ, length, true, false, [], map, replicate, None}
 use Rattle.dn_bits.specs.Bits.{below}
 use Rattle.dn_roster.specs.declared.group.GroupSpec.{GroupSpec}
-use Rattle.dn_roster.specs.Roster.{RosterView}
+use Rattle.dn_roster.specs.Roster.{RosterView, IsRoster}
 use Rattle.dn_layout.specs.Layout.{bits_of}
 use Rattle.dn_seal.specs.Dealt.{server, key_dealt_to, seed_dealt_to}
 use Rattle.dn_window.specs.Window.{opened}
@@ -43,3 +43,9 @@ first_server group roster j workers = record {
   bent = false;
   spent = false;
 }
+
+-- the roster is one with the group's members
+pub record IsGroup (group : GroupSpec) (roster : RosterView) : Type 0 where
+  pub is : IsRoster roster
+  pub clients : length roster.clients ≡ group.clients
+  pub servers : length roster.servers ≡ group.servers

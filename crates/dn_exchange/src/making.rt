@@ -4,7 +4,7 @@ ghost use Rattle.dn_bits.specs.Bits.{below};
 ghost use Rattle.dn_seal.specs.Dealt.{server, key_dealt_to, seed_dealt_to};
 ghost use Rattle.dn_window.specs.Window.{opened};
 ghost use Rattle.dn_server.specs.Parts.{live};
-ghost use Rattle.dn_exchange.specs.Making.{first_run, first_server};
+ghost use Rattle.dn_exchange.specs.Making.{IsGroup, first_run, first_server};
 
 use crate::opening::expected_at;
 use dn_cert::Chain;
@@ -27,6 +27,15 @@ fn seeds_of(alloc: Global, dealt: &Dealt, j: u32) -> Result<Vec<Seed>, NoMemory>
         seeds.push(seed_of(dealt, i, j))?;
     }
     Ok(seeds)
+}
+
+/// The numbers of clients and servers of a dealt group.
+fn numbers(dealt: &Dealt) -> (u32, u32)
+    ensures clients { result.0 ≡ dealt.now.spec.clients }
+    ensures servers { result.1 ≡ dealt.now.spec.servers }
+    ensures group { IsGroup dealt.now.spec dealt.now.roster }
+{
+    (dealt.roster.clients(), dealt.roster.servers())
 }
 
 /// The seed that client `i` of a dealt group shares with server `j`.
@@ -86,9 +95,10 @@ pub(crate) fn make(
     workers: u32,
 ) -> Result<Parts, NoMemory>
     requires { j.0 < dealt.now.spec.servers }
-    ensures { IfOk result (λ p. live p ≡ first_server dealt.now.spec dealt.now.roster j.0 workers) }
+    ensures value { IfOk result (λ p. live p ≡ first_server dealt.now.spec dealt.now.roster j.0 workers) }
+    ensures group { IsGroup dealt.now.spec dealt.now.roster }
 {
-    let (clients, servers) = (dealt.spec.clients, dealt.spec.servers);
+    let (clients, servers) = numbers(dealt);
     let expected = expected_at(clients, servers, j.0);
     Ok(Parts {
         alloc,
