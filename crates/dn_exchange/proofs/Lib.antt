@@ -3,3 +3,4 @@ pub mod CloseLemmas
 pub mod HearLemmas
 pub mod EndSound
 pub mod FirstSound
+pub mod ReadyLemmas
