@@ -18,6 +18,7 @@ ended_sound v s = record {
   window = s.window;
   claims = s.claims;
   are_claims = s.are_claims;
+  claimed = s.claimed;
   is_open = λ e. absurd (never e);
   round = s.round;
   aside = λ b. let few = s.aside b in omega arith;

@@ -27,7 +27,7 @@ use Rattle.dn_cert.specs.Certificate.{IsOfRoster}
 use Rattle.dn_exchange.specs.Making.{IsGroup, first_server}
 use Rattle.dn_exchange.specs.Opening.{Opens, IsOld, IsSmall, fresh_run, expected_by}
 use Rattle.dn_exchange.specs.Opening.Opens.{is_old, is_running, is_spent, opens}
-use Rattle.dn_exchange.specs.Invariant.{IsSound, IsRunning, IsCourse, AreClaims}
+use Rattle.dn_exchange.specs.Invariant.{IsSound, IsRunning, IsCourse, AreClaims, standing_of}
 
 -- nobody has a claim yet
 none_claimed : (n i : ℕ) (c : Claim) → slice_get (replicate n (let none : Option Claim = None in none)) i ≡ Some (Some c) → ⊥
@@ -64,7 +64,7 @@ module _ (v : ServerView) (r prev : Round) (layout : List ℕ) (s : IsSound v) (
     unheld = λ h. new (inr h);
   }
 
-  runs : IsRunning fresh
+  runs : IsRunning (standing_of fresh)
   runs = record {
     course = course;
     kept = record { round = All-nil (λ (x : SaidView). round_of x.statement ≡ Some r); said = All-nil IsSaid; under = All-nil (IsUnder v.seat.roster) };
@@ -85,6 +85,7 @@ module _ (v : ServerView) (r prev : Round) (layout : List ℕ) (s : IsSound v) (
     window = length-replicate (length v.seat.roster.clients) false;
     claims = length-replicate (length v.seat.roster.clients) (let none : Option Claim = None in none);
     are_claims = λ i c e. absurd (none_claimed (length v.seat.roster.clients) i c e);
+    claimed = λ i c e. absurd (none_claimed (length v.seat.roster.clients) i c e);
     is_open = λ e. (refl, refl);
     round = All-nil (λ (x : SaidView). round_of x.statement ≡ Some r);
     aside = λ b. leaves;
@@ -115,6 +116,7 @@ first_sound group roster j workers is lt low high = record {
   window = length-replicate group.clients false ∙ sym is.clients;
   claims = length-replicate group.clients (let none : Option Claim = None in none) ∙ sym is.clients;
   are_claims = λ i c e. absurd (none_claimed group.clients i c e);
+  claimed = λ i c e. absurd (none_claimed group.clients i c e);
   is_open = λ e. absurd (apart e);
   round = All-nil (λ (x : SaidView). round_of x.statement ≡ Some (let first : Round = record { 0 = 0 } in first));
   aside = λ b. omega arith;

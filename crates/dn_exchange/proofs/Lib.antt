@@ -4,3 +4,4 @@ pub mod HearLemmas
 pub mod EndSound
 pub mod FirstSound
 pub mod ReadyLemmas
+pub mod ClaimSound

@@ -45,7 +45,7 @@ use Rattle.dn_rounds.specs.Certifying.{CanStep, AreSignatures, IsCertifiable}
 use Rattle.dn_rounds.proofs.CommitLemmas.{inventories_fit}
 use Rattle.dn_rounds.proofs.ThinLemmas.{listed_few}
 use Rattle.dn_exchange.specs.Closing.{inventory_of, entry_at, entry_from, entry_for, entries_of}
-use Rattle.dn_exchange.specs.Invariant.{IsSound, IsRunning, IsAtStage, IsClaim, HasListed, HasCommitted, HasSigned, claimed_entry}
+use Rattle.dn_exchange.specs.Invariant.{IsSound, IsRunning, IsAtStage, IsClaim, HasListed, HasCommitted, HasSigned, claimed_entry, standing_of}
 
 -- ---- lists
 
@@ -109,7 +109,7 @@ entry_found i None e is = cc
 entry_found i (Some None) e is = cc
 entry_found i (Some (Some claim)) e is = let parts = by_word i claim claim.told e refl is in (claim, refl, parts.0, parts.1)
 
-module _ (v : ServerView) (sound : IsSound v) (running : IsRunning v) (thin : Bool) (listed : List Listed) (listing : IsListing v thin listed) where
+module _ (v : ServerView) (sound : IsSound v) (running : IsRunning (standing_of v)) (thin : Bool) (listed : List Listed) (listing : IsListing v thin listed) where
   -- the entry of a row in the inventory of its server
   record Entered (l : Listed) : Type 0 where
     inventory : Inventory
@@ -171,7 +171,7 @@ module _ (v : ServerView) (sound : IsSound v) (running : IsRunning v) (thin : Bo
   rows_fit = by_recursion (FitsRow listed_row) listed (All-weaker (Contains listed) (FitsRow listed_row) (λ l c. row_fits l c) listed (All-contains_itself listed))
 
   -- a row that the list gives to the server is a claim that was told Included
-  claimed_row : HasListed v → (l : Listed) → Contains listed l → l.server.0 ≡ v.seat.number → IsClaimed v.run l
+  claimed_row : HasListed (standing_of v) → (l : Listed) → Contains listed l → l.server.0 ≡ v.seat.number → IsClaimed v.run l
   claimed_row has l c mine =
       let e = entered l c in
       let own : statement_of v.run.kept 3 l.server.0 ≡ Some (kinds.Inventory (inventory_of v.run)) =
@@ -194,7 +194,7 @@ module _ (v : ServerView) (sound : IsSound v) (running : IsRunning v) (thin : Bo
         fits = subst (λ k. claim.digest ≡ cipher_digest_of v.run.r.0 k (bytes_of claim.cipher)) at is.digest;
       }
 
-  claimed_rows : HasListed v → AreClaimed v.run (given_to listed v.seat.number)
+  claimed_rows : HasListed (standing_of v) → AreClaimed v.run (given_to listed v.seat.number)
   claimed_rows has =
       let mine : Listed → Bool = λ l. l.server.0 == v.seat.number in
       let given = given_to listed v.seat.number in
@@ -216,7 +216,7 @@ body_fits : (version : ℕ) (r prev : Round) (thin : Bool) (listed : List Listed
 body_fits version r prev thin listed digests out known round before is few up rows few_digests each long =
     (known, (round, (before, (is, ((few, up, rows), ((few_digests, each), long))))))
 
-module _ (v : ServerView) (sound : IsSound v) (running : IsRunning v) where
+module _ (v : ServerView) (sound : IsSound v) (running : IsRunning (standing_of v)) where
   low_number : v.seat.number < 2 ^ 32
   low_number = let servers = sound.seated.roster.servers in omega (arith, sound.seated.number, servers.1)
 
@@ -233,11 +233,13 @@ module _ (v : ServerView) (sound : IsSound v) (running : IsRunning v) where
       subst (λ (x : Body). CanSign (server v.seat.number) (kinds.Sign x)) (sym due.is)
       (can_sign (server v.seat.number) (kinds.Sign record { version = v.seat.roster.version; r = v.run.r; prev = v.run.prev; thin = true; listed = due.listed; digests = []; out = [] }) low_number fits tt)
 
-  full_fits : HasCommitted v → (sum : Sum) (b : Body) → IsBodyDue v sum b → CanSign (server v.seat.number) (kinds.Sign b)
+  full_fits : HasCommitted (standing_of v) → (sum : Sum) (b : Body) → IsBodyDue v sum b → CanSign (server v.seat.number) (kinds.Sign b)
   full_fits has sum b due =
       let servers = sound.seated.roster.servers in
       let same : has.sum ≡ sum = same_Some has.sum sum (sym has.has ∙ due.has) in
-      let listing : IsListing v false sum.listed = subst (λ (x : Sum). IsListing v false x.listed) same has.listing in
+      let first : IsListing v false has.sum.listed =
+        record { inventories = has.listing.inventories; kept = has.listing.kept; trim = has.listing.trim; floor = has.listing.floor } in
+      let listing : IsListing v false sum.listed = subst (λ (x : Sum). IsListing v false x.listed) same first in
       let kept = running.kept.said in
       let each : All (λ (d : List ℕ). length d ≡ 32) due.digests =
         λ k d lt. (statement_fits v.run.kept 4 k (kinds.Commit v.run.r (get_or due.digests k d)) kept
@@ -260,7 +262,7 @@ small_body : (b : Body) → length (statement_bytes (kinds.Sign b)) ≤ 16777216
 unfolding statement_bytes
 small_body b few = omega arith
 
-certifiable : (p : Parts) → IsSound (live p) → IsRunning (live p) → HasSigned (live p) → (b : Body) → statement_of p.run.kept 6 p.identity.number ≡ Some (kinds.Sign b) → IsCertifiable p b
+certifiable : (p : Parts) → IsSound (live p) → IsRunning (standing_of (live p)) → HasSigned (standing_of (live p)) → (b : Body) → statement_of p.run.kept 6 p.identity.number ≡ Some (kinds.Sign b) → IsCertifiable p b
 certifiable p sound running has b kept =
     let both : Some (kinds.Sign has.body) ≡ Some (kinds.Sign b) = sym has.kept ∙ kept in
     let same : has.body ≡ b = cc in
@@ -279,7 +281,7 @@ certifiable p sound running has b kept =
 
 -- ---- each stage
 
-at_stage : (p : Parts) → IsSound (live p) → IsRunning (live p) → (stage : Stage) → IsAtStage stage (live p) → CanStep stage p
+at_stage : (p : Parts) → IsSound (live p) → IsRunning (standing_of (live p)) → (stage : Stage) → IsAtStage stage (standing_of (live p)) → CanStep stage p
 at_stage p sound running stages.Collecting at = tt
 at_stage p sound running stages.Listed at =
     let clients = sound.seated.roster.clients in

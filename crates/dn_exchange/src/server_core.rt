@@ -81,6 +81,23 @@ impl ServerCore {
         Ok(answer)
     }
 
+    /// Takes a client's submission, with its ciphertext.
+    pub fn submitted(&mut self, said: &Said, cipher: &Bits) -> Result<Answer, NoMemory>
+        requires submission { IsSubmission said.now.statement }
+        requires under { IsUnder self.old.seat.roster said.now }
+        ensures answer { IfOk result (λ a. TakesSubmission self.old said.now cipher.now a self.new) }
+        ensures spent { OnErr result (self.new.spent ≡ true) }
+        ensures stays_spent { self.old.spent ≡ true → IsErr result }
+    {
+        if self.is_spent {
+            return Err(NoMemory);
+        }
+        self.is_spent = true;
+        let answer = submitted(&mut self.parts, said, cipher)?;
+        self.is_spent = false;
+        Ok(answer)
+    }
+
     /// Ends the run of the round.
     pub fn abandon(&mut self) -> Result<Answer, NoMemory>
         ensures answer { IfOk result (λ a. Abandons self.old a self.new) }

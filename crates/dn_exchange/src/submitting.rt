@@ -6,7 +6,7 @@ ghost use Rattle.dn_lms.specs.Key.{leaf_count};
 ghost use Rattle.dn_record_types.specs.declared.statement.Statement.TheVariants as kinds;
 ghost use Rattle.dn_wire.specs.declared.ids.SignerId.TheVariants as signers;
 ghost use Rattle.dn_seal.specs.Dealt.{server};
-ghost use Rattle.dn_seal.specs.Said.{IsUnder};
+ghost use Rattle.dn_seal.specs.Said.{IsSaid, IsUnder};
 ghost use Rattle.dn_seal.specs.Signer.{CanSign};
 ghost use Rattle.dn_window.specs.Window.{clients_of, has_of};
 ghost use Rattle.dn_exchange.specs.Submitting.{Submitted, IsRefused, IsFitting, IsSubmission, HasClaimed, Submits, TakesSubmission, word_for, told_for};
@@ -193,7 +193,8 @@ pub(crate) fn submitted(
     requires under { IsUnder parts.old.identity.roster said.now }
     requires window { clients_of parts.old.run.window ≡ length parts.old.identity.roster.clients }
     requires claims { length parts.old.run.claims ≡ length parts.old.identity.roster.clients }
-    ensures { IfOk result (λ a. TakesSubmission (live parts.old) said.now cipher.now a (live parts.new)) }
+    ensures takes { IfOk result (λ a. TakesSubmission (live parts.old) said.now cipher.now a (live parts.new)) }
+    ensures said { IsSaid said.now }
 {
     let Statement::Submission {
         r,
