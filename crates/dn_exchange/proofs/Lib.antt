@@ -5,3 +5,4 @@ pub mod EndSound
 pub mod FirstSound
 pub mod ReadyLemmas
 pub mod ClaimSound
+pub mod OpeningStays

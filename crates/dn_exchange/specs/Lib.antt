@@ -6,3 +6,4 @@ pub mod Hearing
 pub mod Ending
 pub mod Making
 pub mod Invariant
+pub mod Openings
