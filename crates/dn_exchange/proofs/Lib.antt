@@ -6,3 +6,5 @@ pub mod FirstSound
 pub mod ReadyLemmas
 pub mod ClaimSound
 pub mod OpeningStays
+pub mod HoldSound
+pub mod KeptSound

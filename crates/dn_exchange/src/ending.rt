@@ -1,7 +1,7 @@
 // How a server abandons its round, and takes certificates.
 ghost use Rattle.std.specs.Prelude.{◌≡◌, IfOk};
-ghost use Rattle.dn_cert.specs.Certificate.{CertificateView};
-ghost use Rattle.dn_cert.specs.Chain.{IsHoldRefused};
+ghost use Rattle.dn_cert.specs.Certificate.{CertificateView, IsCertificate};
+ghost use Rattle.dn_cert.specs.Chain.{IsChain, CanFollow, IsHoldRefused};
 ghost use Rattle.dn_exchange.specs.Ending.{Abandons, HoldsOn};
 ghost use Rattle.dn_server.specs.Parts.{live};
 ghost use Rattle.dn_server.specs.Server.{ServerView};
@@ -34,8 +34,9 @@ fn refused(fault: HoldFault) -> Result<Answer, NoMemory>
     }
 }
 
-/// Takes a certificate, which ends the run of its round.
-pub(crate) fn hold(parts: &mut Parts, c: Certificate) -> Result<Answer, NoMemory>
+/// Holds a certificate that can follow, which ends the run of its round.
+fn hold_it(parts: &mut Parts, c: Certificate) -> Result<Answer, NoMemory>
+    requires { CanFollow parts.old.chain c.body }
     ensures { IfOk result (λ a. HoldsOn (live parts.old) c a (live parts.new)) }
 {
     let r = c.body().r;
@@ -48,4 +49,19 @@ pub(crate) fn hold(parts: &mut Parts, c: Certificate) -> Result<Answer, NoMemory
         end_run(parts);
     }
     does_one(parts.alloc, Act::Held { r })
+}
+
+/// Takes a certificate, which ends the run of its round.
+pub(crate) fn hold(parts: &mut Parts, c: &Certificate) -> Result<Answer, NoMemory>
+    ensures holds { IfOk result (λ a. HoldsOn (live parts.old) c.now a (live parts.new)) }
+    ensures chain { IsChain parts.old.chain }
+    ensures certificate { IsCertificate c.now }
+{
+    match parts.chain.refusal(c.body()) {
+        Some(fault) => refused(fault),
+        None => {
+            let c = c.copy(parts.alloc)?;
+            hold_it(parts, c)
+        }
+    }
 }

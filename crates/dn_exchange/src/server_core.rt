@@ -98,6 +98,22 @@ impl ServerCore {
         Ok(answer)
     }
 
+    /// Takes a certificate, which ends the run of its round.
+    pub fn hold(&mut self, c: &Certificate) -> Result<Answer, NoMemory>
+        requires { IsCertificateUnder self.old.seat.roster c.now }
+        ensures answer { IfOk result (λ a. HoldsOn self.old c.now a self.new) }
+        ensures spent { OnErr result (self.new.spent ≡ true) }
+        ensures stays_spent { self.old.spent ≡ true → IsErr result }
+    {
+        if self.is_spent {
+            return Err(NoMemory);
+        }
+        self.is_spent = true;
+        let answer = hold(&mut self.parts, c)?;
+        self.is_spent = false;
+        Ok(answer)
+    }
+
     /// Ends the run of the round.
     pub fn abandon(&mut self) -> Result<Answer, NoMemory>
         ensures answer { IfOk result (λ a. Abandons self.old a self.new) }

@@ -1,0 +1,12 @@
+use Rattle.std.proofs.Common.{sym, subst}
+use Rattle.dn_cert.specs.Certificate.{IsCertificateUnder}
+use Rattle.dn_server.specs.Parts.{live}
+use Rattle.dn_server.specs.Server.{ServerView}
+use Rattle.dn_exchange.proofs.HoldSound.{holds_sound}
+use Rattle.dn_exchange.proofs.server_core.ServerCore.hold.Goals as goal
+
+pub invariant_of-self-2 : goal.invariant_of-self-2
+invariant_of-self-2 c = λ e.
+    let under = subst (λ (x : ServerView). IsCertificateUnder x.seat.roster c.args.c.now) (sym c.self.view_is) c.requires in
+    let held = c.in_ok-answer.ensures in
+    holds_sound (live c.self.inside.parts) c.args.c.now c.in_ok-answer.answer (live c.hold.new.parts) (c.self.invariant c.if-self.false) held.chain held.certificate under held.holds
