@@ -8,3 +8,4 @@ pub mod ClaimSound
 pub mod OpeningStays
 pub mod HoldSound
 pub mod KeptSound
+pub mod CallsOpen

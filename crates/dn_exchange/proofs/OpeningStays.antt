@@ -43,7 +43,7 @@ find_stays : {X : Type 0} (p : X → Bool) (xs ys : List X) (x : X) → find p x
 find_stays p xs ys x e = find-append p xs ys ∙ ap (λ o. option_or o (find p ys)) e
 
 -- a server that differs in none of this is as open
-moved : (v after : ServerView) → after.seat ≡ v.seat → after.key ≡ v.key → after.opened ≡ v.opened → after.evidence ≡ v.evidence → after.chain ≡ v.chain
+pub moved : (v after : ServerView) → after.seat ≡ v.seat → after.key ≡ v.key → after.opened ≡ v.opened → after.evidence ≡ v.evidence → after.chain ≡ v.chain
     → after.pasts ≡ v.pasts → CanOpen v → CanOpen after
 moved v after seat key opened evidence chain pasts can =
     leaves_can v after
@@ -76,7 +76,7 @@ more_past v past fits can =
     }) can
 
 -- with one body more, of the group
-more_body : (v : ServerView) (b : Body) → All (IsOfRoster v.seat.roster) (with_held b v.chain.held) → CanOpen v
+pub more_body : (v : ServerView) (b : Body) → All (IsOfRoster v.seat.roster) (with_held b v.chain.held) → CanOpen v
     → CanOpen (record v { chain = record v.chain { held = with_held b v.chain.held } })
 more_body v b all can =
     leaves_can v (record v { chain = record v.chain { held = with_held b v.chain.held } })

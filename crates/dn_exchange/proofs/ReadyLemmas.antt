@@ -141,19 +141,11 @@ module _ (v : ServerView) (sound : IsSound v) (running : IsRunning (standing_of 
       let within = slice_get_within v.seat.roster.clients e.entry.client.0 verifies.0 verifies.1 in
       subst (λ (i : ClientId). i.0 < length v.seat.roster.clients) e.client within
 
-<<<<<<< HEAD
   pub clients_within : All (λ (l : Listed). l.client.0 < length v.seat.roster.clients) listed
   clients_within =
       All-weaker (Contains listed) (λ (l : Listed). l.client.0 < length v.seat.roster.clients) (λ l c. client_within l c) listed (All-contains_itself listed)
 
   pub few_listed : length listed ≤ 512
-=======
-  clients_within : All (λ (l : Listed). l.client.0 < length v.seat.roster.clients) listed
-  clients_within =
-      All-weaker (Contains listed) (λ (l : Listed). l.client.0 < length v.seat.roster.clients) (λ l c. client_within l c) listed (All-contains_itself listed)
-
-  few_listed : length listed ≤ 512
->>>>>>> bcore
   few_listed =
       let few = listed_few listed (length v.seat.roster.clients) listing.trim.ascends clients_within in
       let clients = sound.seated.roster.clients in
@@ -175,11 +167,7 @@ module _ (v : ServerView) (sound : IsSound v) (running : IsRunning (standing_of 
       let low_server : l.server.0 < 2 ^ 32 = omega (arith, servers.1, listing.kept.each) in
       (low, (low_server, long))
 
-<<<<<<< HEAD
   pub rows_fit : AllByRecursion (FitsRow listed_row) listed
-=======
-  rows_fit : AllByRecursion (FitsRow listed_row) listed
->>>>>>> bcore
   rows_fit = by_recursion (FitsRow listed_row) listed (All-weaker (Contains listed) (FitsRow listed_row) (λ l c. row_fits l c) listed (All-contains_itself listed))
 
   -- a row that the list gives to the server is a claim that was told Included
@@ -229,11 +217,7 @@ body_fits version r prev thin listed digests out known round before is few up ro
     (known, (round, (before, (is, ((few, up, rows), ((few_digests, each), long))))))
 
 module _ (v : ServerView) (sound : IsSound v) (running : IsRunning (standing_of v)) where
-<<<<<<< HEAD
   pub low_number : v.seat.number < 2 ^ 32
-=======
-  low_number : v.seat.number < 2 ^ 32
->>>>>>> bcore
   low_number = let servers = sound.seated.roster.servers in omega (arith, sound.seated.number, servers.1)
 
   before : v.run.prev.0 < 2 ^ 64
