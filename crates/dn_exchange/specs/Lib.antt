@@ -7,3 +7,4 @@ pub mod Ending
 pub mod Making
 pub mod Invariant
 pub mod Openings
+pub mod Listening
