@@ -197,6 +197,8 @@ module _ (v : ServerView) (said : SaidView) (cipher : List Bool) (t : Submitted)
   pub claimed_sound : v.aside < left_of v → IsSound after_claim
   claimed_sound lt = record {
     seated = record { roster = s.seated.roster; number = s.seated.number; seeds = s.seated.seeds };
+    member = s.member;
+    is_key = s.is_key;
     workers = s.workers;
     slots = s.slots;
     in_group = s.in_group;

@@ -16,6 +16,8 @@ never e = cc
 pub ended_on : (v : ServerView) → IsSound v → (held : List Body) → All (IsOfRoster v.seat.roster) held → IsSound (record (ended v) { chain = record v.chain { held = held } })
 ended_on v s held all = record {
   seated = record { roster = s.seated.roster; number = s.seated.number; seeds = s.seated.seeds };
+  member = s.member;
+  is_key = s.is_key;
   workers = s.workers;
   slots = s.slots;
   in_group = all;

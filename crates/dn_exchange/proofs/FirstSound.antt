@@ -12,7 +12,8 @@ use Rattle.dn_layout.specs.Layout.{bits_of}
 use Rattle.dn_wire.specs.declared.ids.Round.{Round}
 use Rattle.dn_window.specs.Window.{opened, clients_of}
 use Rattle.dn_cert.specs.Chain.{Holds, IsLatestBelow, IsLayoutAfter}
-use Rattle.dn_lms.specs.Key.{leaf_count}
+use Rattle.dn_lms.specs.Key.{IsKey, leaf_count}
+use Rattle.dn_lms.specs.Signature.{public_key}
 use Rattle.dn_server.specs.declared.answer.Answer.{Answer}
 use Rattle.dn_server.specs.declared.claims.Claim.{Claim}
 use Rattle.dn_server.specs.declared.run.Run.{Run}
@@ -21,8 +22,8 @@ use Rattle.dn_bits.specs.Bits.{below}
 use Rattle.std.proofs.lemmas.List.{length-map}
 use Rattle.std.proofs.lemmas.List.FromFn.{length-range_with_len}
 use Rattle.dn_roster.specs.declared.group.GroupSpec.{GroupSpec}
-use Rattle.dn_roster.specs.Roster.{RosterView}
-use Rattle.dn_seal.specs.Dealt.{seed_dealt_to}
+use Rattle.dn_roster.specs.Roster.{RosterView, key_of}
+use Rattle.dn_seal.specs.Dealt.{server, key_dealt_to, seed_dealt_to}
 use Rattle.dn_cert.specs.Certificate.{IsOfRoster}
 use Rattle.dn_exchange.specs.Making.{IsGroup, first_server}
 use Rattle.dn_exchange.specs.Opening.{Opens, IsOld, IsSmall, fresh_run, expected_by}
@@ -79,6 +80,8 @@ module _ (v : ServerView) (r prev : Round) (layout : List ℕ) (s : IsSound v) (
   pub fresh_sound : IsSound fresh
   fresh_sound = record {
     seated = record { roster = s.seated.roster; number = s.seated.number; seeds = s.seated.seeds };
+    member = s.member;
+    is_key = s.is_key;
     workers = s.workers;
     slots = s.slots;
     in_group = s.in_group;
@@ -107,8 +110,10 @@ opens_sound v r a w s (opens prev layout new idle leaves latest after e f) few =
 
 -- a server as it is made
 pub first_sound : (group : GroupSpec) (roster : RosterView) (j workers : ℕ) → IsGroup group roster → j < group.servers → 1 ≤ workers → workers ≤ 16
-    → IsSound (first_server group roster j workers)
-first_sound group roster j workers is lt low high = record {
+    → key_of roster (server j) ≡ Some (public_key (key_dealt_to group (server j))) → IsKey (key_dealt_to group (server j)) → IsSound (first_server group roster j workers)
+first_sound group roster j workers is lt low high member key = record {
+  member = member;
+  is_key = key;
   seated = record { roster = is.is; number = omega (arith, lt, is.servers); seeds = length-map (below group.clients) (λ (i : ℕ). seed_dealt_to group i j) ∙ length-range_with_len 0 group.clients ∙ sym is.clients };
   workers = (low, high);
   slots = sym is.clients;

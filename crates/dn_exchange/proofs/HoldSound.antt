@@ -110,6 +110,8 @@ pub held_sound : (v : ServerView) (c : CertificateView) → IsSound v → IsChai
     → ¬ IsOfRunning v c → IsSound (with_certificate v c)
 held_sound v c s chain is under can isnt = record {
   seated = record { roster = s.seated.roster; number = s.seated.number; seeds = s.seated.seeds };
+  member = s.member;
+  is_key = s.is_key;
   workers = s.workers;
   slots = s.slots;
   in_group = group_more v.seat.roster c.body v.chain.held s.in_group (group_body v.seat.roster c is under);

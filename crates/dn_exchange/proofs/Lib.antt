@@ -9,3 +9,4 @@ pub mod OpeningStays
 pub mod HoldSound
 pub mod KeptSound
 pub mod CallsOpen
+pub mod StepSound

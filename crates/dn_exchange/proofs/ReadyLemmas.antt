@@ -133,7 +133,7 @@ module _ (v : ServerView) (sound : IsSound v) (running : IsRunning (standing_of 
         digest = least.entry.3;
       }
 
-  client_within : (l : Listed) → Contains listed l → l.client.0 < length v.seat.roster.clients
+  pub client_within : (l : Listed) → Contains listed l → l.client.0 < length v.seat.roster.clients
   client_within l c =
       let e = entered l c in
       let all = running.inventories l.server.0 e.inventory e.kept in
@@ -223,7 +223,7 @@ module _ (v : ServerView) (sound : IsSound v) (running : IsRunning (standing_of 
   before : v.run.prev.0 < 2 ^ 64
   before = omega (arith, running.course.before, running.course.small)
 
-  thin_fits : (b : Body) → IsThinDue v b → CanSign (server v.seat.number) (kinds.Sign b)
+  pub thin_fits : (b : Body) → IsThinDue v b → CanSign (server v.seat.number) (kinds.Sign b)
   thin_fits b due =
       let parts = and_parts (v.seat.roster.version == 2) (nat_lt (100 * length due.listed) (95 * count_at v.chain v.run.prev.0)) due.listing.floor in
       let two : v.seat.roster.version ≡ 2 = eqb-true v.seat.roster.version 2 parts.0 in
@@ -233,7 +233,7 @@ module _ (v : ServerView) (sound : IsSound v) (running : IsRunning (standing_of 
       subst (λ (x : Body). CanSign (server v.seat.number) (kinds.Sign x)) (sym due.is)
       (can_sign (server v.seat.number) (kinds.Sign record { version = v.seat.roster.version; r = v.run.r; prev = v.run.prev; thin = true; listed = due.listed; digests = []; out = [] }) low_number fits tt)
 
-  full_fits : HasCommitted (standing_of v) → (sum : Sum) (b : Body) → IsBodyDue v sum b → CanSign (server v.seat.number) (kinds.Sign b)
+  pub full_fits : HasCommitted (standing_of v) → (sum : Sum) (b : Body) → IsBodyDue v sum b → CanSign (server v.seat.number) (kinds.Sign b)
   full_fits has sum b due =
       let servers = sound.seated.roster.servers in
       let same : has.sum ≡ sum = same_Some has.sum sum (sym has.has ∙ due.has) in

@@ -9,7 +9,7 @@ use Rattle.dn_record_types.specs.declared.inventory.Entry.{Entry}
 use Rattle.dn_record_types.specs.declared.inventory.Inventory.{Inventory}
 use Rattle.dn_record_types.specs.declared.statement.Statement.TheVariants as kinds
 use Rattle.dn_layout.specs.Layout.{bits_of}
-use Rattle.dn_roster.specs.Roster.{RosterView}
+use Rattle.dn_roster.specs.Roster.{RosterView, key_of}
 use Rattle.dn_seal.specs.Said.{SaidView, IsSaid, IsUnder}
 use Rattle.dn_window.specs.Window.{clients_of, has_of}
 use Rattle.dn_cert.specs.Certificate.{IsOfRoster}
@@ -17,7 +17,9 @@ use Rattle.dn_cert.specs.Chain.{ChainView, bodies, Holds, IsLayoutAfter, CanFoll
 use Rattle.dn_cert.specs.Floor.{is_due_thin}
 use Rattle.dn_cert.specs.Signed.{EntryVerifies}
 use Rattle.dn_cert.specs.Trim.{IsTrim}
-use Rattle.dn_lms.specs.Key.{leaf_count}
+use Rattle.dn_lms.specs.Key.{IsKey, leaf_count}
+use Rattle.dn_lms.specs.Signature.{public_key}
+use Rattle.dn_seal.specs.Dealt.{server}
 use Rattle.dn_server.specs.declared.claims.Claim.{Claim}
 use Rattle.dn_server.specs.declared.run.Run.{Run}
 use Rattle.dn_server.specs.declared.run.Stage.{Stage}
@@ -138,10 +140,12 @@ pub record IsRunning (x : Standing) : Type 0 where
   pub strings : AreStringsLong x.r x.bits x.kept
   pub stage : IsAtStage x.stage x
 
--- The server is one of its group, by a chain of the group's bodies; its round has a place for each client, and claims that hold; a window that
+-- The server is one of its group, by its key, with a chain of the group's bodies; its round has a place for each client, and claims that hold; a window that
 -- is open is that of a round that runs and isn't listed; and the leaves that are set aside are left.
 pub record IsSound (v : ServerView) : Type 0 where
   pub seated : IsSeated v
+  pub member : key_of v.seat.roster (server v.seat.number) ≡ Some (public_key v.key)
+  pub is_key : IsKey v.key
   pub workers : (1 ≤ v.workers) × (v.workers ≤ 16)
   pub slots : v.chain.slots ≡ length v.seat.roster.clients
   pub in_group : All (IsOfRoster v.seat.roster) (bodies v.chain)

@@ -1,6 +1,9 @@
 // How a server is made.
-ghost use Rattle.std.specs.Prelude.{◌≡◌, ◌<◌, ◌≤◌, ◌+◌, ◌*◌, [], true, map, length, IfOk};
+ghost use Rattle.std.specs.Prelude.{◌≡◌, ◌<◌, ◌≤◌, ◌+◌, ◌*◌, [], true, map, length, IfOk, Some};
 ghost use Rattle.dn_bits.specs.Bits.{below};
+ghost use Rattle.dn_lms.specs.Key.{IsKey};
+ghost use Rattle.dn_lms.specs.Signature.{public_key};
+ghost use Rattle.dn_roster.specs.Roster.{key_of};
 ghost use Rattle.dn_seal.specs.Dealt.{server, key_dealt_to, seed_dealt_to};
 ghost use Rattle.dn_window.specs.Window.{opened};
 ghost use Rattle.dn_server.specs.Parts.{live};
@@ -79,12 +82,15 @@ fn no_run(alloc: Global, clients: u32, expected: u32) -> Result<Run, NoMemory>
 /// Server `j` of a dealt group in it, with the key that is dealt to it.
 fn identity_of(alloc: Global, dealt: &Dealt, j: ServerId) -> Result<Identity, NoMemory>
     requires { j.0 < dealt.now.spec.servers }
-    ensures { IfOk result (λ d. d ≡ record { roster = dealt.now.roster; number = j.0; key = key_dealt_to dealt.now.spec (server j.0); signed = [] }) }
+    ensures value { IfOk result (λ d. d ≡ record { roster = dealt.now.roster; number = j.0; key = key_dealt_to dealt.now.spec (server j.0); signed = [] }) }
+    ensures key { IfOk result (λ d. IsKey d.key) }
 {
     members_have_their_keys(dealt);
     let roster = dealt.roster.copy(alloc)?;
     let key = dealt.server_keys[j.0 as usize].copy(alloc)?;
-    Identity::make(alloc, roster, j, key)
+    let identity = Identity::make(alloc, roster, j, key)?;
+    let _leaves = identity.left();
+    Ok(identity)
 }
 
 /// The parts of server `j` of a dealt group, before it has done anything.
@@ -97,7 +103,10 @@ pub(crate) fn make(
     requires { j.0 < dealt.now.spec.servers }
     ensures value { IfOk result (λ p. live p ≡ first_server dealt.now.spec dealt.now.roster j.0 workers) }
     ensures group { IsGroup dealt.now.spec dealt.now.roster }
+    ensures member { key_of dealt.now.roster (server j.0) ≡ Some (public_key (key_dealt_to dealt.now.spec (server j.0))) }
+    ensures key { IfOk result (λ _. IsKey (key_dealt_to dealt.now.spec (server j.0))) }
 {
+    members_have_their_keys(dealt);
     let (clients, servers) = numbers(dealt);
     let expected = expected_at(clients, servers, j.0);
     Ok(Parts {

@@ -28,9 +28,7 @@ make-requires c =
     ∙ c.members_have_their_keys.ensures.member (server c.args.j.0) c.requires
     ∙ ap (λ (k : Key). Some (public_key k)) (sym key)
 
-pub returns : goal.returns
-returns c =
-    let key = key_is (goal.at.returns c).In_ok-key in
-    IfOk-weaker c.make.result _ _
-    (λ x is. is ∙ (λ i. record { roster = c.in_ok-roster.ensures i; number = c.args.j.0; key = key i; signed = [] }))
-    c.make.ensures
+pub returns-clause-value : goal.returns-clause-value
+returns-clause-value c =
+    let key = key_is (goal.at.returns-clause-value c).In_ok-key in
+    c.in_ok-identity.ensures ∙ (λ i. record { roster = c.in_ok-roster.ensures i; number = c.args.j.0; key = key i; signed = [] })

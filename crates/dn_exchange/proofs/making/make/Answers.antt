@@ -37,4 +37,4 @@ returns-clause-value c =
     let expected = c.expected_at-expected.ensures.count ∙ (λ i. expected_at (clients i) (servers i) c.args.j.0) in
     let chain = c.in_ok-make.ensures.none ∙ (λ i. record { slots = clients i; held = [] }) in
     let run = c.in_ok-no_run.ensures ∙ (λ i. first_run (clients i) (expected i)) in
-    λ i. of_parts c.args.workers (c.in_ok-identity_of.ensures i) (c.in_ok-seeds_of.ensures i) (chain i) (run i) (c.none.ensures i) (c.none-2.ensures i) (c.none-3.ensures i) (c.none-4.ensures i)
+    λ i. of_parts c.args.workers (c.in_ok-identity_of.ensures.value i) (c.in_ok-seeds_of.ensures i) (chain i) (run i) (c.none.ensures i) (c.none-2.ensures i) (c.none-3.ensures i) (c.none-4.ensures i)

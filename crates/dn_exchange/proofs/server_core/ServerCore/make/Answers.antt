@@ -6,4 +6,4 @@ use Rattle.dn_exchange.proofs.server_core.ServerCore.make.Goals as goal
 pub invariant_of-result : goal.invariant_of-result
 invariant_of-result c = λ e.
     let d = c.args.dealt.now in
-    subst IsSound (sym c.in_ok-make.ensures.value) (first_sound d.spec d.roster c.args.j.0 c.args.workers c.in_ok-make.ensures.group c.requires.within c.requires.some c.requires.few)
+    subst IsSound (sym c.in_ok-make.ensures.value) (first_sound d.spec d.roster c.args.j.0 c.args.workers c.in_ok-make.ensures.group c.requires.within c.requires.some c.requires.few c.in_ok-make.ensures.member c.in_ok-make.ensures.key)
