@@ -1,6 +1,16 @@
 -- What a server keeps true of its openings stays true in its calls.
 use Rattle.std.proofs.Common.{◌≡◌, ℕ, Bool, true, false, List, [], ◌∷◌, ◌++◌, Some, None, refl, sym, ap, subst, ◌∙◌}
 use Rattle.std.specs.Prelude.{All, Option, length}
+use Rattle.std.proofs.Common.{arith}
+use Rattle.std.proofs.lemmas.List.Elements.{All-nil}
+use Rattle.dn_roster.specs.declared.group.GroupSpec.{GroupSpec}
+use Rattle.dn_roster.specs.Roster.{RosterView}
+use Rattle.dn_seal.specs.Dealt.{server}
+use Rattle.dn_seal.specs.Said.{IsUnder}
+use Rattle.dn_server.specs.Keeping.{round_of}
+use Rattle.dn_exchange.specs.Making.{first_server}
+use Rattle.dn_exchange.specs.Listening.{Hears, not_by_server, of_round, of_evidence}
+use Rattle.dn_openings.proofs.StayLemmas.{can_hear}
 use Rattle.dn_layout.specs.Layout.{bits_of}
 use Rattle.dn_wire.specs.declared.ids.Round.{Round}
 use Rattle.dn_record_types.specs.declared.statement.Statement.{Statement}
@@ -33,6 +43,8 @@ use Rattle.dn_exchange.specs.Ending.Abandons.{is_idle, abandons}
 use Rattle.dn_exchange.specs.Ending.HoldsOn.{is_known, has_no_prev, is_off_floor, is_of_other_length, is_held, ends_run}
 use Rattle.dn_exchange.specs.Hearing.{HearsRound, with_kept}
 use Rattle.dn_exchange.specs.Hearing.HearsRound.{is_early, is_past, is_idle as idle_round, repeats as repeats_round, is_second, is_faulty, goes_on}
+use Rattle.dn_server.specs.Justified.{Seat}
+use Rattle.dn_exchange.proofs.EvidenceSound.{hears_grown}
 use Rattle.dn_exchange.proofs.OpeningStays.{moved, more_body, steps_open}
 
 -- with a run of the same round and sum
@@ -104,3 +116,33 @@ module _ (sound_step : (v : ServerView) (did : List Act) (w : ServerView) → Is
       subst IsOpen (sym same) (ended_open (with_kept v said) (in_run v (with_kept v said).run v.signed v.aside refl refl is))
   hears_open v j r said a w (goes_on did o i k h on e) kept is =
       steps_open sound_step (with_kept v said) did w on.steps (kept did) (in_run v (with_kept v said).run v.signed v.aside refl refl is)
+
+-- a server that has done nothing
+pub first_open : (group : GroupSpec) (roster : RosterView) (j workers : ℕ) → IsSound (first_server group roster j workers) → IsOpen (first_server group roster j workers)
+first_open group roster j workers sound = record {
+  can = record {
+    member = sound.member;
+    in_group = sound.in_group;
+    seeds = sound.seated.seeds;
+    under = All-nil (IsUnder roster);
+    sizes = λ past there. absurd (omega (arith, there.1));
+    places = λ place there. absurd (omega (arith, there.1));
+  };
+  sum = λ sum e. cc;
+}
+
+-- a statement is heard
+pub listens_open : ((v : ServerView) (did : List Act) (w : ServerView) → IsSound v → v.run.is_running ≡ true → Step v did w → IsSound w)
+    → (v : ServerView) (said : SaidView) (a : Answer) (w : ServerView) → Hears v said a w → IsUnder v.seat.roster said
+    → ((j : ℕ) (r : Round) → said.signer ≡ server j → round_of said.statement ≡ Some r → IsSound (with_kept v said)) → IsOpen v → IsOpen w
+listens_open sound_step v said a w (not_by_server r round other e same) under kept is = subst IsOpen (sym same) is
+listens_open sound_step v said a w (of_round j r by round h) under kept is = hears_open sound_step v j r said a w h (λ did. kept j r by round) is
+listens_open sound_step v said a w (of_evidence round h) under kept is =
+    let grown = (hears_grown v said a w h).1 in
+    let seat : w.seat ≡ v.seat = ap (λ (x : ServerView). x.seat) grown.is in
+    let run : w.run ≡ v.run = ap (λ (x : ServerView). x.run) grown.is in
+    record {
+      can = can_hear v said a w h under is.can;
+      sum = subst (λ (s : Seat). (sum : Sum) → w.run.sum ≡ Some sum → CanSign (server s.number) (kinds.Shown w.run.r sum.s sum.own)) (sym seat)
+        (subst (λ (run : Run). (sum : Sum) → run.sum ≡ Some sum → CanSign (itself v) (kinds.Shown run.r sum.s sum.own)) (sym run) is.sum);
+    }

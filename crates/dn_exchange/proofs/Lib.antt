@@ -10,3 +10,4 @@ pub mod HoldSound
 pub mod KeptSound
 pub mod CallsOpen
 pub mod StepSound
+pub mod EvidenceSound

@@ -39,12 +39,13 @@ impl Model for ServerCore {
     ghost use Rattle.dn_server.specs.Parts.{view_of, live};
     ghost use Rattle.dn_server.specs.Server.{ServerView};
     ghost use Rattle.dn_exchange.specs.Invariant.{IsSound};
+    ghost use Rattle.dn_exchange.specs.Openings.{IsOpen};
 
     ghost Value = { ServerView };
 
     ghost view = { λ c. view_of c.parts c.is_spent };
 
-    ghost invariant = { λ c. c.is_spent ≡ false → IsSound (live c.parts) };
+    ghost invariant = { λ c. c.is_spent ≡ false → IsSound (live c.parts) × IsOpen (live c.parts) };
 }
 
 impl ServerCore {
