@@ -58,6 +58,13 @@ due_open w e = (open_so w.closed (nat_le w.closing_tick (w.ticks + 1)) e).0
 pub ticked_closed : (w : WindowState) → is_due w ≡ true → (ticked w).closed ≡ true
 ticked_closed w e = ap (λ (b : Bool). (cond b w (record w { ticks = w.ticks + 1; closed = is_due w })).closed) (due_open w e) ∙ e
 
+pub ticked_submitted : (w : WindowState) → (ticked w).submitted ≡ w.submitted
+ticked_submitted w = by w.closed
+  where
+    by : (b : Bool) → (cond b w (record w { ticks = w.ticks + 1; closed = is_due w })).submitted ≡ w.submitted
+    by true = refl
+    by false = refl
+
 -- what a tick and a call do, where the window closes
 pub ticks_out : (p : Parts) (w : WindowState) (answer : Answer) (after : ServerView) (did : List Act) → is_due p.run.window ≡ true → w ≡ ticked p.run.window
     → Closes (live (in_window p w)) did after → answer ≡ answers.Acts did → Ticks (live p) answer after

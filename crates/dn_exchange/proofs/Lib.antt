@@ -11,3 +11,7 @@ pub mod KeptSound
 pub mod CallsOpen
 pub mod StepSound
 pub mod EvidenceSound
+pub mod SteadyLemmas
+pub mod HearSound
+pub mod ListSound
+pub mod CloseSound

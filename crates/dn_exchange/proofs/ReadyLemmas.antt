@@ -49,7 +49,7 @@ use Rattle.dn_exchange.specs.Invariant.{IsSound, IsRunning, IsAtStage, IsClaim, 
 
 -- ---- lists
 
-by_recursion : {X : Type 0} (P : X → Type 0) (xs : List X) → All P xs → AllByRecursion P xs
+pub by_recursion : {X : Type 0} (P : X → Type 0) (xs : List X) → All P xs → AllByRecursion P xs
 by_recursion P [] h = tt
 by_recursion P (x ∷ xs) h = (All-head P x xs h, by_recursion P xs (All-tail P x xs h))
 
@@ -74,7 +74,7 @@ in_cons h x xs y rest (Some z) e c = elim (cons_cases z (filter_map h xs) y c.0 
   | inr there ↦ let r = rest there in (r.0, later x xs r.0 r.1, r.2)
 ]
 
-in_filter_map : {X Y : Type 0} (h : X → Option Y) (xs : List X) (y : Y) → Contains (filter_map h xs) y → (x : X) × Contains xs x × (h x ≡ Some y)
+pub in_filter_map : {X Y : Type 0} (h : X → Option Y) (xs : List X) (y : Y) → Contains (filter_map h xs) y → (x : X) × Contains xs x × (h x ≡ Some y)
 in_filter_map h [] y c = absurd (omega (arith, c.1))
 in_filter_map h (x ∷ xs) y c = in_cons h x xs y (in_filter_map h xs y) (h x) refl c
 
@@ -103,7 +103,7 @@ by_word : (i : ℕ) (claim : Claim) (w : WordTold) (e : Entry) → claim.told �
 by_word i claim words.Included e told is = (told, sym (same_Some (claimed_entry i claim) e is))
 by_word i claim words.Late e told is = cc
 
-entry_found : (i : ℕ) (o : Option (Option Claim)) (e : Entry) → entry_from i o ≡ Some e
+pub entry_found : (i : ℕ) (o : Option (Option Claim)) (e : Entry) → entry_from i o ≡ Some e
     → (claim : Claim) × (o ≡ Some (Some claim)) × (claim.told ≡ words.Included) × (e ≡ claimed_entry i claim)
 entry_found i None e is = cc
 entry_found i (Some None) e is = cc

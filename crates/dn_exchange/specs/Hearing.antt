@@ -44,6 +44,10 @@ pub record IsFirstFalse (v : ServerView) (inventory : Inventory) (at : ℕ) : Ty
   pub false_one : ¬ EntryVerifies v.seat.roster inventory.r inventory.prev entry
   pub before : (k : ℕ) (e : Entry) → k < at → slice_get inventory.entries k ≡ Some e → EntryVerifies v.seat.roster inventory.r inventory.prev e
 
+-- each entry of the inventory verifies
+abbrev pub AllVerify : ServerView → Inventory → Type 0
+AllVerify v inventory = (k : ℕ) (e : Entry) → slice_get inventory.entries k ≡ Some e → EntryVerifies v.seat.roster inventory.r inventory.prev e
+
 -- It is the server itself that made the statement, and it is committed to its own ciphertext, which it will reveal: another ciphertext under
 -- its number is then told against its own.
 abbrev pub IsOwnCommitted : ServerView → ℕ → Type 0
@@ -74,6 +78,17 @@ HasFault v j (kinds.Accusation r s k) fault = ⊥
 HasFault v j (kinds.Rebuttal r k x seed e) fault = ⊥
 HasFault v j (kinds.Concede r k) fault = ⊥
 
+-- The statement of server j in the round that runs has no fault, by its kind.
+abbrev pub IsFaultless : ServerView → ℕ → Statement → Type 0
+IsFaultless v j (kinds.Inventory inventory) = (inventory.prev ≡ v.run.prev) × AllVerify v inventory
+IsFaultless v j (kinds.Commit r d) = (s : List Bool) → statement_of v.run.kept 5 j ≡ Some (kinds.Reveal r s) → d ≡ digest_by (course_of v.run) j s
+IsFaultless v j (kinds.Reveal r s) =
+    (length s ≡ v.run.bits)
+    × ((d : List ℕ) → ¬ IsOwnCommitted v j → statement_of v.run.kept 4 j ≡ Some (kinds.Commit r d) → d ≡ digest_by (course_of v.run) j s)
+IsFaultless v j (kinds.Sign b) =
+    (own : Body) → v.run.stage ≡ stages.Signed → statement_of v.run.kept 6 v.seat.number ≡ Some (kinds.Sign own) → b ≡ own
+IsFaultless v j _ = Unit {0}
+
 -- the server keeps what was said
 abbrev pub with_kept : ServerView → SaidView → ServerView
 with_kept v said = record v { run = record v.run { kept = v.run.kept ++ said ∷ [] } }
@@ -91,7 +106,7 @@ pub data HearsRound (v : ServerView) (j : ℕ) (r : Round) (said : SaidView) (an
       → HasFault v j said.statement fault
       → answer ≡ does (acts.Spoiled (record { 0 = j }) fault.reason fault.kept fault.came ∷ []) → after ≡ ended (with_kept v said) → HearsRound v j r said answer after
   goes_on : (did : List Act) → r ≡ v.run.r → v.run.is_running ≡ true → kept_of v.run.kept (kind_byte said.statement) j ≡ None
-      → ((fault : Differing) → ¬ HasFault v j said.statement fault) → GoesOn (with_kept v said) did after
+      → IsFaultless v j said.statement → GoesOn (with_kept v said) did after
       → answer ≡ does did → HearsRound v j r said answer after
 
 -- the statement is one that servers alone make
@@ -106,17 +121,13 @@ pub data Hears (v : ServerView) (said : SaidView) (answer : Answer) (after : Ser
 
 -- ---- words of the bodies
 
--- each entry of the inventory verifies
-abbrev pub AllVerify : ServerView → Inventory → Type 0
-AllVerify v inventory = (k : ℕ) (e : Entry) → slice_get inventory.entries k ≡ Some e → EntryVerifies v.seat.roster inventory.r inventory.prev e
-
 -- the fault as it was found
 abbrev pub told_of : Found → Differing
 told_of found = record { reason = found.reason; kept = found.kept.items; came = found.came.items }
 
 -- what was found of a statement: no fault, or its fault
 abbrev pub FaultFound : ServerView → ℕ → Statement → Option Found → Type 0
-FaultFound v j s found = MatchOption found ((fault : Differing) → ¬ HasFault v j s fault) (λ d. HasFault v j s (told_of d))
+FaultFound v j s found = MatchOption found (IsFaultless v j s) (λ d. HasFault v j s (told_of d))
 
 -- what was found of a ciphertext: it is the one that was committed to, or how it differs
 abbrev pub DiffersFrom : Run → ℕ → List ℕ → List Bool → Option Found → Type 0
@@ -129,4 +140,4 @@ abbrev pub KeepsHeard : ServerView → ℕ → SaidView → Answer → ServerVie
 KeepsHeard v j said answer after =
     ((fault : Differing) × HasFault v j said.statement fault
     × (answer ≡ does (acts.Spoiled (record { 0 = j }) fault.reason fault.kept fault.came ∷ [])) × (after ≡ ended (with_kept v said)))
-    ⊎ ((did : List Act) × ((fault : Differing) → ¬ HasFault v j said.statement fault) × GoesOn (with_kept v said) did after × (answer ≡ does did))
+    ⊎ ((did : List Act) × IsFaultless v j said.statement × GoesOn (with_kept v said) did after × (answer ≡ does did))

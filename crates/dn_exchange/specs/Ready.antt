@@ -14,7 +14,7 @@ use Rattle.dn_seal.specs.Said.{SaidView}
 use Rattle.dn_server.specs.Server.{kept_of}
 use Rattle.dn_server.specs.Keeping.{AreOfRound}
 use Rattle.dn_exchange.specs.Closing.{inventory_of}
-use Rattle.dn_exchange.specs.Hearing.{Differing, HasFault}
+use Rattle.dn_exchange.specs.Hearing.{IsFaultless}
 
 -- the parts with another window
 abbrev pub in_window : Parts → WindowState → Parts
@@ -29,7 +29,7 @@ pub record CanList (p : Parts) : Type 0 where
 
 -- where its window is open, the server can close it and list
 abbrev pub CanClose : Parts → Type 0
-CanClose p = p.run.window.closed ≡ false → (w : WindowState) → w.closed ≡ true → CanList (in_window p w)
+CanClose p = p.run.window.closed ≡ false → (w : WindowState) → w.closed ≡ true → w.submitted ≡ p.run.window.submitted → CanList (in_window p w)
 
 -- the parts with a statement more that is kept
 abbrev pub in_kept : Parts → SaidView → Parts
@@ -39,5 +39,5 @@ in_kept p said = record p { run = record p.run { kept = p.run.kept ++ said ∷ [
 -- of that server and the statement has no fault, it can go on with it.
 pub record CanHear (p : Parts) (j : ℕ) (said : SaidView) : Type 0 where
   pub round : AreOfRound p.run.r p.run.kept
-  pub steady : p.run.is_running ≡ true → kept_of p.run.kept (kind_byte said.statement) j ≡ None → ((fault : Differing) → ¬ HasFault (live p) j said.statement fault)
+  pub steady : p.run.is_running ≡ true → kept_of p.run.kept (kind_byte said.statement) j ≡ None → IsFaultless (live p) j said.statement
       → IsSteady (in_kept p said)

@@ -9,7 +9,7 @@ use Rattle.dn_exchange.proofs.closing.close.Goals as goal
 pub close_out-requires-after_bounds : goal.close_out-requires-after_bounds
 close_out-requires-after_bounds g c = λ κs within.
     let was = isnt_so c.args.parts.now.run.window.closed (sym c.close.ensures.closes ∙ c.if-not-close.false) in
-    c.requires was c.close.new.self (ap (λ (x : WindowState). x.closed) c.close.ensures.after)
+    c.requires was c.close.new.self (ap (λ (x : WindowState). x.closed) c.close.ensures.after) (ap (λ (x : WindowState). x.submitted) c.close.ensures.after)
 
 pub returns : goal.returns
 returns g c =
