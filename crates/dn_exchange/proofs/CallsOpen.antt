@@ -41,7 +41,7 @@ use Rattle.dn_exchange.specs.Closing.Shuts.{is_shut, closes_now}
 use Rattle.dn_exchange.specs.Ending.{Abandons, HoldsOn, with_certificate}
 use Rattle.dn_exchange.specs.Ending.Abandons.{is_idle, abandons}
 use Rattle.dn_exchange.specs.Ending.HoldsOn.{is_known, has_no_prev, is_off_floor, is_of_other_length, is_held, ends_run}
-use Rattle.dn_exchange.specs.Hearing.{HearsRound, with_kept}
+use Rattle.dn_exchange.specs.Hearing.{HearsRound, IsFaultless, with_kept}
 use Rattle.dn_exchange.specs.Hearing.HearsRound.{is_early, is_past, is_idle as idle_round, repeats as repeats_round, is_second, is_faulty, goes_on}
 use Rattle.dn_server.specs.Justified.{Seat}
 use Rattle.dn_exchange.proofs.EvidenceSound.{hears_grown}
@@ -106,7 +106,7 @@ module _ (sound_step : (v : ServerView) (did : List Act) (w : ServerView) → Is
   closes_open v did w (finds_no_leaf free leaf bent d same) listed is = subst IsOpen (sym same) is
 
   pub hears_open : (v : ServerView) (j : ℕ) (r : Round) (said : SaidView) (a : Answer) (w : ServerView) → HearsRound v j r said a w
-      → ((did : List Act) → IsSound (with_kept v said)) → IsOpen v → IsOpen w
+      → (IsFaultless v j said.statement → r ≡ v.run.r → IsSound (with_kept v said)) → IsOpen v → IsOpen w
   hears_open v j r said a w (is_early o e same) kept is = subst IsOpen (sym same) is
   hears_open v j r said a w (is_past o e same) kept is = subst IsOpen (sym same) is
   hears_open v j r said a w (idle_round o i e same) kept is = subst IsOpen (sym same) is
@@ -115,7 +115,7 @@ module _ (sound_step : (v : ServerView) (did : List Act) (w : ServerView) → Is
   hears_open v j r said a w (is_faulty fault o i k h e same) kept is =
       subst IsOpen (sym same) (ended_open (with_kept v said) (in_run v (with_kept v said).run v.signed v.aside refl refl is))
   hears_open v j r said a w (goes_on did o i k h on e) kept is =
-      steps_open sound_step (with_kept v said) did w on.steps (kept did) (in_run v (with_kept v said).run v.signed v.aside refl refl is)
+      steps_open sound_step (with_kept v said) did w on.steps (kept h o) (in_run v (with_kept v said).run v.signed v.aside refl refl is)
 
 -- a server that has done nothing
 pub first_open : (group : GroupSpec) (roster : RosterView) (j workers : ℕ) → IsSound (first_server group roster j workers) → IsOpen (first_server group roster j workers)
@@ -131,18 +131,3 @@ first_open group roster j workers sound = record {
   sum = λ sum e. cc;
 }
 
--- a statement is heard
-pub listens_open : ((v : ServerView) (did : List Act) (w : ServerView) → IsSound v → v.run.is_running ≡ true → Step v did w → IsSound w)
-    → (v : ServerView) (said : SaidView) (a : Answer) (w : ServerView) → Hears v said a w → IsUnder v.seat.roster said
-    → ((j : ℕ) (r : Round) → said.signer ≡ server j → round_of said.statement ≡ Some r → IsSound (with_kept v said)) → IsOpen v → IsOpen w
-listens_open sound_step v said a w (not_by_server r round other e same) under kept is = subst IsOpen (sym same) is
-listens_open sound_step v said a w (of_round j r by round h) under kept is = hears_open sound_step v j r said a w h (λ did. kept j r by round) is
-listens_open sound_step v said a w (of_evidence round h) under kept is =
-    let grown = (hears_grown v said a w h).1 in
-    let seat : w.seat ≡ v.seat = ap (λ (x : ServerView). x.seat) grown.is in
-    let run : w.run ≡ v.run = ap (λ (x : ServerView). x.run) grown.is in
-    record {
-      can = can_hear v said a w h under is.can;
-      sum = subst (λ (s : Seat). (sum : Sum) → w.run.sum ≡ Some sum → CanSign (server s.number) (kinds.Shown w.run.r sum.s sum.own)) (sym seat)
-        (subst (λ (run : Run). (sum : Sum) → run.sum ≡ Some sum → CanSign (itself v) (kinds.Shown run.r sum.s sum.own)) (sym run) is.sum);
-    }

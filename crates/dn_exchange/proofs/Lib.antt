@@ -15,3 +15,5 @@ pub mod SteadyLemmas
 pub mod HearSound
 pub mod ListSound
 pub mod CloseSound
+pub mod CallsSound
+pub mod Listens

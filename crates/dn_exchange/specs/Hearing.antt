@@ -109,16 +109,6 @@ pub data HearsRound (v : ServerView) (j : ℕ) (r : Round) (said : SaidView) (an
       → IsFaultless v j said.statement → GoesOn (with_kept v said) did after
       → answer ≡ does did → HearsRound v j r said answer after
 
--- the statement is one that servers alone make
-abbrev pub IsOfServers : Statement → Type 0
-IsOfServers s = (3 ≤ kind_byte s) × (kind_byte s ≤ 8)
-
--- A statement comes. (Openings and what clients say of them are heard once they are built.)
-pub data Hears (v : ServerView) (said : SaidView) (answer : Answer) (after : ServerView) : Type 0 where
-  not_by_server : IsOfServers said.statement → ((j : ℕ) → said.signer ≢ server j) → answer ≡ ignored reasons.Kind → after ≡ v → Hears v said answer after
-  of_round : (j : ℕ) (r : Round) → said.signer ≡ server j → round_of said.statement ≡ Some r → HearsRound v j r said answer after → Hears v said answer after
-  of_other_kind : round_of said.statement ≡ None → answer ≡ ignored reasons.Kind → after ≡ v → Hears v said answer after
-
 -- ---- words of the bodies
 
 -- the fault as it was found

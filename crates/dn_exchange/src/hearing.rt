@@ -287,7 +287,7 @@ pub(crate) fn hear_round<R: Threads + Sync>(
     said: &Said,
 ) -> Result<Answer, NoMemory>
     requires same { round_of said.now.statement ≡ Some r }
-    requires can { CanHear parts.old j.0 said.now }
+    requires can { r ≡ parts.old.run.r → CanHear parts.old j.0 said.now }
     ensures { IfOk result (λ a. HearsRound (live parts.old) j.0 r said.now a (live parts.new)) }
 {
     if parts.run.r.0 < r.0 {

@@ -1,8 +1,7 @@
 // What a server does with what it hears.
 ghost use Rattle.std.specs.Prelude.{◌≡◌, ℕ, Some, IfOk, OnOk};
-ghost use Rattle.dn_wire.specs.declared.ids.Round.{Round};
 ghost use Rattle.dn_seal.specs.Dealt.{server};
-ghost use Rattle.dn_seal.specs.Said.{IsUnder};
+ghost use Rattle.dn_seal.specs.Said.{IsSaid, IsUnder};
 ghost use Rattle.dn_server.specs.Keeping.{round_of};
 ghost use Rattle.dn_server.specs.Parts.{live};
 ghost use Rattle.dn_openings.specs.Open.{CanOpen};
@@ -38,10 +37,11 @@ pub(crate) fn hear<R: Threads + Sync, U: Rules>(
     parts: &mut Parts,
     said: &Said,
 ) -> Result<Answer, NoMemory>
-    requires round { (j : ℕ) → (r : Round) → said.now.signer ≡ server j → round_of said.now.statement ≡ Some r → CanHear parts.old j said.now }
+    requires round { (j : ℕ) → said.now.signer ≡ server j → round_of said.now.statement ≡ Some parts.old.run.r → IsSaid said.now → CanHear parts.old j said.now }
     requires open { CanOpen (live parts.old) }
     requires under { IsUnder parts.old.identity.roster said.now }
-    ensures { IfOk result (λ a. Hears (live parts.old) said.now a (live parts.new)) }
+    ensures heard { IfOk result (λ a. Hears (live parts.old) said.now a (live parts.new)) }
+    ensures said { IsSaid said.now }
 {
     let Some(r) = round_of(said.statement()) else {
         return dn_openings::hear(rules, parts, said);

@@ -37,3 +37,12 @@ returns g c =
     (λ a after told. second_so (live p) j c.args.r said kept a (live c.spoil_twice.new.parts) same c.if-not-parts.false there differs
     (told ∙ (λ i. does (acts.Spoiled c.args.j reasons.Twice (first i) (second i) ∷ []))) (ap live after))
     c.spoil_twice.ensures.after c.spoil_twice.ensures.told
+
+pub keep-requires : goal.keep-requires
+keep-requires g c =
+    let p = c.args.parts.now in
+    let j = c.args.j.0 in
+    let kind_is = c.kind_of.ensures ∙ ap kind_byte c.statement.ensures.value in
+    let same = same_round c.args.r p.run.r c.if-parts-r.false c.if-r-parts.false in
+    let none = sym (ap (λ k. kept_of p.run.kept k j) kind_is) ∙ c.in_default.ensures in
+    (same, c.requires.same, search rules, none, c.requires.can same)

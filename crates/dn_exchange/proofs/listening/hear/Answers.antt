@@ -23,7 +23,7 @@ hear_round-requires g c =
     let round : round_of c.args.said.now.statement ≡ Some c.in-Some.r = ap round_of (sym c.statement.ensures.value) ∙ sym c.round_of.ensures ∙ c.in-Some.is in
     (
       search rules,
-      (round, c.requires.round c.in-Server.j.0 c.in-Some.r (sym c.signer.ensures.value ∙ c.in-Server.is) round)
+      (round, λ at. c.requires.round c.in-Server.j.0 (sym c.signer.ensures.value ∙ c.in-Server.is) (round ∙ ap Some at) c.statement.ensures.said)
     )
 
 pub returns-in-Server : goal.returns-in-Server
