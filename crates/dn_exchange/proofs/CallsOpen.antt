@@ -26,7 +26,7 @@ use Rattle.dn_server.specs.declared.run.Run.{Run}
 use Rattle.dn_server.specs.declared.run.Stage.TheVariants as stages
 use Rattle.dn_server.specs.declared.run.Sum.{Sum}
 use Rattle.dn_server.specs.Server.{ServerView, itself, ended, with_signed}
-use Rattle.dn_rounds.specs.Going.{Step, says}
+use Rattle.dn_rounds.specs.Going.{Step, IsFree, HasLeaf, says}
 use Rattle.dn_openings.specs.Open.{CanOpen}
 use Rattle.dn_exchange.specs.Invariant.{IsSound}
 use Rattle.dn_exchange.specs.Openings.{SumFits, IsOpen}
@@ -48,7 +48,7 @@ use Rattle.dn_exchange.proofs.EvidenceSound.{hears_grown}
 use Rattle.dn_exchange.proofs.OpeningStays.{moved, more_body, steps_open}
 
 -- with a run of the same round and sum
-in_run : (v : ServerView) (run : Run) (signed : List Statement) (aside : ℕ) → run.r ≡ v.run.r → run.sum ≡ v.run.sum → IsOpen v
+pub in_run : (v : ServerView) (run : Run) (signed : List Statement) (aside : ℕ) → run.r ≡ v.run.r → run.sum ≡ v.run.sum → IsOpen v
     → IsOpen (record v { run = run; signed = signed; aside = aside })
 in_run v run signed aside round same is = record {
   can = moved v (record v { run = run; signed = signed; aside = aside }) refl refl refl refl refl refl is.can;
@@ -98,10 +98,10 @@ holds_open v c a w (ends_run follows other e same) then is =
 
 module _ (sound_step : (v : ServerView) (did : List Act) (w : ServerView) → IsSound v → v.run.is_running ≡ true → Step v did w → IsSound w) where
   pub closes_open : (v : ServerView) (did : List Act) (w : ServerView) → Closes v did w
-      → ((rest : List Act) → did ≡ rest → IsSound (says v (kinds.Inventory (inventory_of v.run)) stages.Listed v.run.sum)) → IsOpen v → IsOpen w
+      → (IsFree v (kinds.Inventory (inventory_of v.run)) → HasLeaf v → IsSound (says v (kinds.Inventory (inventory_of v.run)) stages.Listed v.run.sum)) → IsOpen v → IsOpen w
   closes_open v did w (lists rest free leaf on d) listed is =
       let mid : ServerView = says v (kinds.Inventory (inventory_of v.run)) stages.Listed v.run.sum in
-      steps_open sound_step mid rest w on.steps (listed did refl) (in_run v mid.run mid.signed mid.aside refl refl is)
+      steps_open sound_step mid rest w on.steps (listed free leaf) (in_run v mid.run mid.signed mid.aside refl refl is)
   closes_open v did w (meets_other other free d same) listed is = subst IsOpen (sym same) (ended_open v is)
   closes_open v did w (finds_no_leaf free leaf bent d same) listed is = subst IsOpen (sym same) is
 

@@ -101,6 +101,36 @@ impl ServerCore {
         Ok(answer)
     }
 
+    /// Counts a tick of time, which may close the window.
+    pub fn tick<R: Threads + Sync>(&mut self, rt: &R) -> Result<Answer, NoMemory>
+        ensures answer { IfOk result (λ a. Ticks self.old a self.new) }
+        ensures spent { OnErr result (self.new.spent ≡ true) }
+        ensures stays_spent { self.old.spent ≡ true → IsErr result }
+    {
+        if self.is_spent {
+            return Err(NoMemory);
+        }
+        self.is_spent = true;
+        let answer = tick(rt, &mut self.parts)?;
+        self.is_spent = false;
+        Ok(answer)
+    }
+
+    /// Closes the window.
+    pub fn close<R: Threads + Sync>(&mut self, rt: &R) -> Result<Answer, NoMemory>
+        ensures answer { IfOk result (λ a. Shuts self.old a self.new) }
+        ensures spent { OnErr result (self.new.spent ≡ true) }
+        ensures stays_spent { self.old.spent ≡ true → IsErr result }
+    {
+        if self.is_spent {
+            return Err(NoMemory);
+        }
+        self.is_spent = true;
+        let answer = close(rt, &mut self.parts)?;
+        self.is_spent = false;
+        Ok(answer)
+    }
+
     /// Hears a statement. A round's of another server may let it go on with its round; an accusation, an opening or an answer to a challenge is
     /// kept, and answered. `rules` say what an accusation must hold to.
     pub fn hear<R: Threads + Sync, U: Rules>(

@@ -45,4 +45,4 @@ keep-requires g c =
     let kind_is = c.kind_of.ensures ∙ ap kind_byte c.statement.ensures.value in
     let same = same_round c.args.r p.run.r c.if-parts-r.false c.if-r-parts.false in
     let none = sym (ap (λ k. kept_of p.run.kept k j) kind_is) ∙ c.in_default.ensures in
-    (same, c.requires.same, search rules, none, c.requires.can same)
+    (search rules, (same, (c.requires.same, (search rules, (none, c.requires.can same)))))

@@ -16,7 +16,10 @@ returns-in_default g c =
     let said : SaidView = c.args.said.now in
     let after : ServerView = live c.hear.new.parts in
     let none : round_of said.statement ≡ None = ap round_of (sym c.statement.ensures.value) ∙ sym c.round_of.ensures ∙ c.in_default.is in
-    IfOk-weaker c.hear.result (λ a. HearsEvidence v said a after) (λ a. Hears v said a after) (λ a h. of_evidence none h) c.hear.ensures.heard
+    record {
+      heard = IfOk-weaker c.hear.result (λ a. HearsEvidence v said a after) (λ a. Hears v said a after) (λ a h. of_evidence none h) c.hear.ensures.heard;
+      said = c.statement.ensures.said;
+    }
 
 pub hear_round-requires : goal.hear_round-requires
 hear_round-requires g c =
@@ -33,11 +36,17 @@ returns-in-Server g c =
     let after : ServerView = live c.hear_round.new.parts in
     let j = c.in-Server.j.0 in
     let r = c.in-Some.r in
-    IfOk-weaker c.hear_round.result (λ a. HearsRound v j r said a after) (λ a. Hears v said a after)
-    (λ a h. of_round j r (sym c.signer.ensures.value ∙ c.in-Server.is) (ap round_of (sym c.statement.ensures.value) ∙ sym c.round_of.ensures ∙ c.in-Some.is) h)
-    c.hear_round.ensures
+    record {
+      heard = IfOk-weaker c.hear_round.result (λ a. HearsRound v j r said a after) (λ a. Hears v said a after)
+          (λ a h. of_round j r (sym c.signer.ensures.value ∙ c.in-Server.is) (ap round_of (sym c.statement.ensures.value) ∙ sym c.round_of.ensures ∙ c.in-Some.is) h)
+          c.hear_round.ensures;
+      said = c.statement.ensures.said;
+    }
 
 pub returns-in_default-signer : goal.returns-in_default-signer
 returns-in_default-signer g c =
-    not_by_server c.in-Some.r (ap round_of (sym c.statement.ensures.value) ∙ sym c.round_of.ensures ∙ c.in-Some.is)
-    (λ j e. c.in_default-signer.not-Server record { 0 = j } (c.signer.ensures.value ∙ e)) refl refl
+    record {
+      heard = not_by_server c.in-Some.r (ap round_of (sym c.statement.ensures.value) ∙ sym c.round_of.ensures ∙ c.in-Some.is)
+          (λ j e. c.in_default-signer.not-Server record { 0 = j } (c.signer.ensures.value ∙ e)) refl refl;
+      said = c.statement.ensures.said;
+    }
