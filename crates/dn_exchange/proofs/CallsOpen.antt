@@ -1,16 +1,12 @@
 -- What a server keeps true of its openings stays true in its calls.
-use Rattle.std.proofs.Common.{◌≡◌, ℕ, Bool, true, false, List, [], ◌∷◌, ◌++◌, Some, None, refl, sym, ap, subst, ◌∙◌}
-use Rattle.std.specs.Prelude.{All, Option, length}
+use Rattle.std.proofs.Common.{◌≡◌, ℕ, Bool, true, List, [], ◌∷◌, ◌++◌, refl, sym, subst, ◌∙◌}
+use Rattle.std.specs.Prelude.{All, length}
 use Rattle.std.proofs.Common.{arith}
 use Rattle.std.proofs.lemmas.List.Elements.{All-nil}
 use Rattle.dn_roster.specs.declared.group.GroupSpec.{GroupSpec}
 use Rattle.dn_roster.specs.Roster.{RosterView}
-use Rattle.dn_seal.specs.Dealt.{server}
 use Rattle.dn_seal.specs.Said.{IsUnder}
-use Rattle.dn_server.specs.Keeping.{round_of}
 use Rattle.dn_exchange.specs.Making.{first_server}
-use Rattle.dn_exchange.specs.Listening.{Hears, not_by_server, of_round, of_evidence}
-use Rattle.dn_openings.proofs.StayLemmas.{can_hear}
 use Rattle.dn_layout.specs.Layout.{bits_of}
 use Rattle.dn_wire.specs.declared.ids.Round.{Round}
 use Rattle.dn_record_types.specs.declared.statement.Statement.{Statement}
@@ -19,32 +15,25 @@ use Rattle.dn_seal.specs.Said.{SaidView}
 use Rattle.dn_seal.specs.Signer.{CanSign}
 use Rattle.dn_cert.specs.Certificate.{CertificateView, IsOfRoster}
 use Rattle.dn_cert.specs.Chain.{bodies, with_held}
-use Rattle.dn_window.specs.Window.{WindowState, ticked}
 use Rattle.dn_server.specs.declared.act.Act.{Act}
 use Rattle.dn_server.specs.declared.answer.Answer.{Answer}
 use Rattle.dn_server.specs.declared.run.Run.{Run}
 use Rattle.dn_server.specs.declared.run.Stage.TheVariants as stages
-use Rattle.dn_server.specs.declared.run.Sum.{Sum}
-use Rattle.dn_server.specs.Server.{ServerView, itself, ended, with_signed}
+use Rattle.dn_server.specs.Server.{ServerView, itself, ended}
 use Rattle.dn_rounds.specs.Going.{Step, IsFree, HasLeaf, says}
-use Rattle.dn_openings.specs.Open.{CanOpen}
 use Rattle.dn_exchange.specs.Invariant.{IsSound}
-use Rattle.dn_exchange.specs.Openings.{SumFits, IsOpen}
+use Rattle.dn_exchange.specs.Openings.{IsOpen}
 use Rattle.dn_exchange.specs.Opening.{Opens, fresh_run, expected_by}
 use Rattle.dn_exchange.specs.Opening.Opens.{is_old, is_running, is_spent, opens}
 use Rattle.dn_exchange.specs.Submitting.{Submitted, Submits, TakesSubmission, receipt_of, with_claim}
 use Rattle.dn_exchange.specs.Submitting.Submits.{is_refused, repeats as repeats_claim, finds_no_leaf as no_leaf, is_claimed}
-use Rattle.dn_exchange.specs.Closing.{Closes, Ticks, Shuts, inventory_of, with_window}
+use Rattle.dn_exchange.specs.Closing.{Closes, inventory_of}
 use Rattle.dn_exchange.specs.Closing.Closes.{lists, meets_other, finds_no_leaf}
-use Rattle.dn_exchange.specs.Closing.Ticks.{counts, closes_at}
-use Rattle.dn_exchange.specs.Closing.Shuts.{is_shut, closes_now}
 use Rattle.dn_exchange.specs.Ending.{Abandons, HoldsOn, with_certificate}
 use Rattle.dn_exchange.specs.Ending.Abandons.{is_idle, abandons}
 use Rattle.dn_exchange.specs.Ending.HoldsOn.{is_known, has_no_prev, is_off_floor, is_of_other_length, is_held, ends_run}
 use Rattle.dn_exchange.specs.Hearing.{HearsRound, IsFaultless, with_kept}
 use Rattle.dn_exchange.specs.Hearing.HearsRound.{is_early, is_past, is_idle as idle_round, repeats as repeats_round, is_second, is_faulty, goes_on}
-use Rattle.dn_server.specs.Justified.{Seat}
-use Rattle.dn_exchange.proofs.EvidenceSound.{hears_grown}
 use Rattle.dn_exchange.proofs.OpeningStays.{moved, more_body, steps_open}
 
 -- with a run of the same round and sum
@@ -130,4 +119,3 @@ first_open group roster j workers sound = record {
   };
   sum = λ sum e. cc;
 }
-

@@ -1,12 +1,10 @@
 -- A server that hears of openings stays sound.
 use Rattle.std.proofs.Common.{◌≡◌, ℕ, ◌+◌, ◌-◌, ◌≤◌, Bool, true, false, List, [], ◌∷◌, ◌++◌, length, cond, refl, sym, ap, subst, ◌∙◌, arith, inl, inr, length-append}
 use Rattle.std.specs.Prelude.{◌⊎◌}
-use Rattle.std.proofs.lemmas.Bool.{cases_Bool}
 use Rattle.dn_wire.specs.declared.ids.Round.{Round}
 use Rattle.dn_record_types.specs.declared.body.Body.{Body}
 use Rattle.dn_record_types.specs.declared.statement.Statement.{Statement}
 use Rattle.dn_seal.specs.Said.{SaidView}
-use Rattle.dn_lms.specs.Key.{leaf_count}
 use Rattle.dn_server.specs.declared.act.Act.{Act}
 use Rattle.dn_server.specs.declared.answer.Answer.{Answer}
 use Rattle.dn_server.specs.declared.past.Past.{Past}
@@ -38,7 +36,10 @@ grown_over v w x m n p q =
     let before : length w.signed ≡ length p.signed = ap (λ (y : ServerView). length y.signed) p.is in
     let first : length p.signed ≡ length v.signed + m = p.count in
     record {
-      signed = q.signed; opened = q.opened; evidence = q.evidence; challenged = q.challenged;
+      signed = q.signed;
+      opened = q.opened;
+      evidence = q.evidence;
+      challenged = q.challenged;
       is = q.is ∙ ap (λ (y : ServerView). let z : ServerView = record y { signed = q.signed; opened = q.opened; evidence = q.evidence; challenged = q.challenged } in z) p.is;
       count = omega arith;
     }
@@ -88,8 +89,8 @@ opens_grown v b past k did w r signed o =
     elim (shows_grown o.padded past o.shown_did o.shown o.shows) [
       | inl two ↦
           let lacks : has_opened v r ≡ false =
-            ap (has_opened v) (sym same)
-            ∙ sym (ap (λ (x : ServerView). has_opened x past.body.r) (signed_so v (pads_at v.seat b k) o.padded o.signs).is) ∙ two.0 in
+          ap (has_opened v) (sym same)
+          ∙ sym (ap (λ (x : ServerView). has_opened x past.body.r) (signed_so v (pads_at v.seat b k) o.padded o.signs).is) ∙ two.0 in
           let two_due : leaves_due v r ≡ 2 = due false lacks in
           (2, grown_over v o.shown w 2 0 (grown_over v o.padded o.shown 1 1 first two.1) last, omega arith)
       | inr one ↦
@@ -121,8 +122,17 @@ grown_sound : (v w : ServerView) (n : ℕ) → Grown v w n → ((n ≡ 0) ⊎ (n
 grown_sound v w n g few s =
     let after : ServerView = record v { signed = g.signed; opened = g.opened; evidence = g.evidence; challenged = g.challenged } in
     let so : IsSound after = record {
-      member = s.member; is_key = s.is_key; seated = record { roster = s.seated.roster; number = s.seated.number; seeds = s.seated.seeds };
-      workers = s.workers; slots = s.slots; in_group = s.in_group; window = s.window; claims = s.claims; are_claims = s.are_claims; claimed = s.claimed; is_open = s.is_open;
+      member = s.member;
+      is_key = s.is_key;
+      seated = record { roster = s.seated.roster; number = s.seated.number; seeds = s.seated.seeds };
+      workers = s.workers;
+      slots = s.slots;
+      in_group = s.in_group;
+      window = s.window;
+      claims = s.claims;
+      are_claims = s.are_claims;
+      claimed = s.claimed;
+      is_open = s.is_open;
       round = s.round;
       aside = λ b. let was = s.aside b in let count = g.count in elim few [ inl nothing ↦ omega arith | inr enough ↦ omega arith ];
       some_aside = s.some_aside;

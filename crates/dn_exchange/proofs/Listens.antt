@@ -1,5 +1,5 @@
 -- A server that hears a statement, or closes its window, keeps true of its openings what it must.
-use Rattle.std.proofs.Common.{◌≡◌, ℕ, true, false, Some, List, refl, sym, ap, subst, ◌∙◌}
+use Rattle.std.proofs.Common.{◌≡◌, true, false, Some, List, refl, sym, ap, subst, ◌∙◌}
 use Rattle.dn_seal.specs.Said.{SaidView, IsSaid, IsUnder}
 use Rattle.dn_seal.specs.Dealt.{server}
 use Rattle.dn_seal.specs.Signer.{CanSign}
@@ -20,7 +20,6 @@ use Rattle.dn_exchange.proofs.HearSound.{kept_sound}
 use Rattle.dn_exchange.proofs.StepSound.{step_sound}
 use Rattle.dn_exchange.proofs.CallsSound.{hears_sound}
 use Rattle.dn_window.specs.Window.{WindowState, ticked}
-use Rattle.dn_server.specs.declared.run.Stage.TheVariants as stages
 use Rattle.dn_exchange.specs.Closing.{Closes, Ticks, Shuts, with_window}
 use Rattle.dn_exchange.specs.Closing.Ticks.{counts, closes_at}
 use Rattle.dn_exchange.specs.Closing.Shuts.{is_shut, closes_now}
@@ -47,7 +46,7 @@ listens_open v y a w s said under is (of_evidence round h) =
     record {
       can = can_hear v y a w h under is.can;
       sum = subst (λ (z : Seat). (sum : Sum) → w.run.sum ≡ Some sum → CanSign (server z.number) (kinds.Shown w.run.r sum.s sum.own)) (sym seat)
-        (subst (λ (run : Run). (sum : Sum) → run.sum ≡ Some sum → CanSign (itself v) (kinds.Shown run.r sum.s sum.own)) (sym run) is.sum);
+          (subst (λ (run : Run). (sum : Sum) → run.sum ≡ Some sum → CanSign (itself v) (kinds.Shown run.r sum.s sum.own)) (sym run) is.sum);
     }
 
 window_open : (v : ServerView) (w : WindowState) → IsOpen v → IsOpen (with_window v w)

@@ -1,6 +1,6 @@
 -- What a server keeps true of its openings stays true in its rounds.
-use Rattle.std.proofs.Common.{◌≡◌, ℕ, ◌+◌, ◌<◌, ◌≤◌, ◌^◌, Bool, true, false, List, [], ◌∷◌, ◌++◌, length, cond, Some, None, refl, sym, ap, subst, ◌∙◌, arith, inl, inr}
-use Rattle.std.specs.Prelude.{Option, All, Contains, find, ◌==◌, ◌⊎◌}
+use Rattle.std.proofs.Common.{◌≡◌, ℕ, ◌<◌, ◌^◌, Bool, true, false, List, [], ◌∷◌, ◌++◌, length, Some, refl, sym, ap, subst, ◌∙◌, arith, inl, inr}
+use Rattle.std.specs.Prelude.{Option, All, Contains, find, ◌==◌}
 use Rattle.std.proofs.lemmas.Option.{same_Some}
 use Rattle.std.specs.Option.{option_or}
 use Rattle.std.proofs.lemmas.List.Folds.{find-append}
@@ -11,30 +11,26 @@ use Rattle.dn_record_types.specs.declared.body.Listed.{Listed}
 use Rattle.dn_record_types.specs.declared.statement.Statement.{Statement}
 use Rattle.dn_record_types.specs.declared.statement.Statement.TheVariants as kinds
 use Rattle.dn_seal.specs.Dealt.{server}
-use Rattle.dn_seal.specs.Said.{SaidView}
 use Rattle.dn_seal.specs.Signer.{CanSign}
 use Rattle.dn_seal.proofs.SizeLemmas.{can_sign}
-use Rattle.dn_cert.specs.Certificate.{CertificateView, IsOfRoster}
+use Rattle.dn_cert.specs.Certificate.{IsOfRoster}
 use Rattle.dn_cert.specs.Chain.{ChainView, bodies, with_held}
 use Rattle.dn_cert.proofs.GrowthLemmas.{held_stays}
-use Rattle.dn_window.specs.Window.{WindowState, ticked}
 use Rattle.dn_server.specs.declared.act.Act.{Act}
-use Rattle.dn_server.specs.declared.answer.Answer.{Answer}
 use Rattle.dn_server.specs.declared.past.Past.{Past}
 use Rattle.dn_server.specs.declared.run.Run.{Run}
 use Rattle.dn_server.specs.declared.run.Sum.{Sum}
 use Rattle.dn_server.specs.declared.run.Stage.TheVariants as stages
 use Rattle.dn_server.specs.Server.{ServerView, itself, past_of, course_of, ended}
-use Rattle.dn_rounds.specs.Going.{Step, Steps, GoesOn, IsCommitDue, no_step, one_more, says, unbent, with_past, past_with, thin_past, certified, commitment_of}
+use Rattle.dn_rounds.specs.Going.{Step, Steps, IsCommitDue, no_step, one_more, says, unbent, with_past, past_with, thin_past, commitment_of}
 use Rattle.dn_rounds.specs.Going.Step.{commits, reveals, signs, signs_thin, certifies, commit_conflicts, reveal_conflicts, body_opposed, thin_opposed}
 use Rattle.dn_rounds.proofs.SumLemmas.{sum_long}
 use Rattle.dn_openings.specs.Open.{CanOpen}
 use Rattle.dn_openings.specs.Accusing.{shown_of}
-use Rattle.dn_openings.specs.Discipline.{LeavesOpenings}
 use Rattle.dn_openings.proofs.DisciplineLemmas.{leaves_can}
 use Rattle.dn_openings.proofs.FitLemmas.{shown_fits}
 use Rattle.dn_exchange.specs.Invariant.{IsSound}
-use Rattle.dn_exchange.specs.Openings.{SumFits, IsOpen}
+use Rattle.dn_exchange.specs.Openings.{IsOpen}
 use Rattle.dn_exchange.proofs.ReadyLemmas.{few_listed, clients_within, low_number}
 
 -- ---- what is kept of bodies
@@ -48,7 +44,10 @@ pub moved : (v after : ServerView) → after.seat ≡ v.seat → after.key ≡ v
 moved v after seat key opened evidence chain pasts can =
     leaves_can v after
     (record {
-      seat = seat; key = key; opened = opened; evidence = evidence;
+      seat = seat;
+      key = key;
+      opened = opened;
+      evidence = evidence;
       held = λ b c. subst (λ (x : ChainView). Contains (bodies x) b) (sym chain) c;
       in_group = subst (λ s. All (IsOfRoster s.roster) (bodies after.chain)) (sym seat) (subst (λ (x : ChainView). All (IsOfRoster v.seat.roster) (bodies x)) (sym chain) can.in_group);
       pasts = λ r past e. ap (λ l. past_of l r) pasts ∙ e;
@@ -65,7 +64,10 @@ more_past : (v : ServerView) (past : Past) → CanSign (itself v) (shown_of past
 more_past v past fits can =
     leaves_can v (with_past v past)
     (record {
-      seat = refl; key = refl; opened = refl; evidence = refl;
+      seat = refl;
+      key = refl;
+      opened = refl;
+      evidence = refl;
       held = λ b c. c;
       in_group = can.in_group;
       pasts = λ r p e. find_stays (λ x. x.body.r.0 == r) v.pasts (past ∷ []) p e;
@@ -81,7 +83,10 @@ pub more_body : (v : ServerView) (b : Body) → All (IsOfRoster v.seat.roster) (
 more_body v b all can =
     leaves_can v (record v { chain = record v.chain { held = with_held b v.chain.held } })
     (record {
-      seat = refl; key = refl; opened = refl; evidence = refl;
+      seat = refl;
+      key = refl;
+      opened = refl;
+      evidence = refl;
       held = λ c there. held_stays b v.chain.held c there;
       in_group = all;
       pasts = λ r p e. e;
@@ -96,8 +101,8 @@ sum_fits v sound on sum due =
     let running = sound.running on in
     let clients = sound.seated.roster.clients in
     let low : All (λ (l : Listed). l.client.0 < 2 ^ 32) sum.listed =
-      All-weaker (λ (l : Listed). l.client.0 < length v.seat.roster.clients) (λ (l : Listed). l.client.0 < 2 ^ 32) (λ l h. omega (arith, clients.1)) sum.listed
-      (clients_within v sound running false sum.listed due.listing) in
+    All-weaker (λ (l : Listed). l.client.0 < length v.seat.roster.clients) (λ (l : Listed). l.client.0 < 2 ^ 32) (λ l h. omega (arith, clients.1)) sum.listed
+    (clients_within v sound running false sum.listed due.listing) in
     shown_fits v.seat.number (course_of v.run) sum.listed sum.s sum.own (low_number v sound running) running.course.small running.course.few
     (few_listed v sound running false sum.listed due.listing) due.listing.trim.ascends low (sum_long v sum due.summed) due.summed.rows
 
@@ -128,11 +133,11 @@ step_open v did w sound on (signs_thin b due free leaf d e) then is =
     let mid : ServerView = says v (kinds.Sign b) stages.Signed v.run.sum in
     let round : v.run.r ≡ b.r = sym (ap (λ (x : Body). x.r) due.is) in
     let fits : CanSign (itself v) (shown_of (thin_past b)) =
-      subst (λ r. CanSign (itself v) (kinds.Shown r [] [])) round (empty_fits v.seat.number v.run.r (low_number v sound running) running.course.small) in
+    subst (λ r. CanSign (itself v) (kinds.Shown r [] [])) round (empty_fits v.seat.number v.run.r (low_number v sound running) running.course.small) in
     subst IsOpen (sym e) (record { can = more_past mid (thin_past b) fits (moved v mid refl refl refl refl refl refl is.can); sum = is.sum })
 step_open v did w sound on (certifies b c agreed is_one follows d e) then is =
     let all : All (IsOfRoster v.seat.roster) (with_held c.body v.chain.held) =
-      subst (λ (x : ServerView). All (IsOfRoster x.seat.roster) (bodies x.chain)) e then.in_group in
+    subst (λ (x : ServerView). All (IsOfRoster x.seat.roster) (bodies x.chain)) e then.in_group in
     let mid : ServerView = ended v in
     subst IsOpen (sym e) (record { can = more_body mid c.body all (moved v mid refl refl refl refl refl refl is.can); sum = is.sum })
 step_open v did w sound on (commit_conflicts sum other due free d e) then is =

@@ -1,5 +1,5 @@
 -- What a server answers to a statement that a server made of a round, and what it is afterwards.
-use Rattle.std.specs.Prelude.{◌≡◌, ◌≢◌, ℕ, ◌<◌, ◌≤◌, ◌++◌, ◌⊎◌, Bool, true, false, List, [], ◌∷◌, length, Option, Some, None, MatchOption, slice_get}
+use Rattle.std.specs.Prelude.{◌≡◌, ◌≢◌, ℕ, ◌<◌, ◌++◌, ◌⊎◌, Bool, true, false, List, [], ◌∷◌, length, Option, Some, None, MatchOption, slice_get}
 use Rattle.std.specs.Int.{w64, to_be_bytes}
 use Rattle.dn_wire.specs.declared.ids.Round.{Round}
 use Rattle.dn_record_types.specs.declared.body.Body.{Body}
@@ -20,8 +20,6 @@ use Rattle.dn_server.specs.declared.answer.Reason.TheVariants as reasons
 use Rattle.dn_server.specs.declared.run.Run.{Run}
 use Rattle.dn_server.specs.declared.run.Stage.TheVariants as stages
 use Rattle.dn_exchange.specs.declared.hearing.Found.{Found}
-use Rattle.dn_seal.specs.Dealt.{server}
-use Rattle.dn_server.specs.Keeping.{round_of}
 use Rattle.dn_server.specs.Justified.{digest_by}
 use Rattle.dn_server.specs.Server.{ServerView, course_of, kept_of, statement_of, ended}
 use Rattle.dn_rounds.specs.Going.{GoesOn, spoiled_twice}

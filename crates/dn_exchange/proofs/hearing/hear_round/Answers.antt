@@ -1,6 +1,5 @@
-use Rattle.std.proofs.Common.{rules, ◌≡◌, ◌≢◌, ◌∙◌, ◌<◌, ◌∷◌, [], ap, sym, refl}
+use Rattle.std.proofs.Common.{rules, ◌≢◌, ◌∙◌, ◌∷◌, [], ap, sym}
 use Rattle.std.proofs.lemmas.Result.{IfOk-weaker}
-use Rattle.dn_record_types.specs.declared.statement.Statement.{Statement}
 use Rattle.dn_records.specs.Records.{kind_byte, statement_bytes}
 use Rattle.dn_server.specs.declared.act.Act.TheVariants as acts
 use Rattle.dn_server.specs.declared.act.SpoilReason.TheVariants as reasons

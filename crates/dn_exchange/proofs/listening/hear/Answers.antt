@@ -1,6 +1,5 @@
-use Rattle.std.proofs.Common.{◌≡◌, ℕ, Some, None, refl, sym, ap, ◌∙◌, rules}
+use Rattle.std.proofs.Common.{◌≡◌, Some, None, refl, sym, ap, ◌∙◌, rules}
 use Rattle.std.proofs.lemmas.Result.{IfOk-weaker}
-use Rattle.dn_seal.specs.Dealt.{server}
 use Rattle.dn_seal.specs.Said.{SaidView}
 use Rattle.dn_server.specs.Keeping.{round_of}
 use Rattle.dn_server.specs.Parts.{live}
@@ -23,10 +22,9 @@ returns-in_default g c =
 
 pub hear_round-requires : goal.hear_round-requires
 hear_round-requires g c =
-    let round : round_of c.args.said.now.statement ≡ Some c.in-Some.r = ap round_of (sym c.statement.ensures.value) ∙ sym c.round_of.ensures ∙ c.in-Some.is in
-    (
+    let round : round_of c.args.said.now.statement ≡ Some c.in-Some.r = ap round_of (sym c.statement.ensures.value) ∙ sym c.round_of.ensures ∙ c.in-Some.is in (
       search rules,
-      (round, λ at. c.requires.round c.in-Server.j.0 (sym c.signer.ensures.value ∙ c.in-Server.is) (round ∙ ap Some at) c.statement.ensures.said)
+      (round, λ at. c.requires.round c.in-Server.j.0 (sym c.signer.ensures.value ∙ c.in-Server.is) (round ∙ ap Some at) c.statement.ensures.said),
     )
 
 pub returns-in-Server : goal.returns-in-Server

@@ -20,10 +20,9 @@ invariant_of-self-2 g c = λ e.
     let w = live c.hear.new.parts in
     let was = c.self.invariant c.if-self.false in
     let under = subst (λ (x : ServerView). IsUnder x.seat.roster c.args.said.now) (sym c.self.view_is) c.requires in
-    let did = c.in_ok-answer.ensures in
-    (
+    let did = c.in_ok-answer.ensures in (
       listens_sound v c.args.said.now c.in_ok-answer.answer w was.0 did.said under did.heard,
-      listens_open v c.args.said.now c.in_ok-answer.answer w was.0 did.said under was.1 did.heard
+      listens_open v c.args.said.now c.in_ok-answer.answer w was.0 did.said under was.1 did.heard,
     )
 
 pub returns-clause-answer : goal.returns-clause-answer

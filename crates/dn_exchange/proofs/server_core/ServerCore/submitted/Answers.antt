@@ -12,8 +12,7 @@ invariant_of-self-2 c = λ e.
     let w = live c.submitted.new.parts in
     let was = c.self.invariant c.if-self.false in
     let under = subst (λ (x : ServerView). IsUnder x.seat.roster c.args.said.now) (sym c.self.view_is) c.requires.under in
-    let did = c.in_ok-answer.ensures in
-    (
+    let did = c.in_ok-answer.ensures in (
       takes_sound v c.args.said.now c.args.cipher.now c.in_ok-answer.answer w did.said under was.0 did.takes,
-      submits_open v c.args.said.now c.args.cipher.now c.in_ok-answer.answer w did.takes was.1
+      submits_open v c.args.said.now c.args.cipher.now c.in_ok-answer.answer w did.takes was.1,
     )
