@@ -1,5 +1,5 @@
 -- A server that takes a submission stays sound.
-use Rattle.std.proofs.Common.{◌≡◌, ◌≢◌, ℕ, ◌+◌, ◌-◌, ◌<◌, ◌≤◌, Bool, true, false, List, [], ◌∷◌, ◌++◌, length, get_or, Some, None, cond, map, refl, sym, ap, subst, ◌∙◌, arith, inl, inr}
+use Rattle.std.proofs.Common.{◌≡◌, ◌≢◌, ℕ, ◌<◌, Bool, true, false, List, [], ◌∷◌, length, get_or, Some, None, cond, refl, sym, ap, subst, ◌∙◌, arith, inl, inr}
 use Rattle.std.specs.Prelude.{Option, slice_get, slice_set, ◌⊎◌}
 use Rattle.std.specs.List.{filter_map, cons_option}
 use Rattle.std.proofs.lemmas.Bool.Decides.{eqb_tells}
@@ -114,12 +114,12 @@ module _ (claims : List (Option Claim)) (k : ℕ) (c : Claim) (late : c.told ≡
 
   other_place : (i : ℕ) → i ≢ k → slice_get next i ≡ slice_get claims i
   other_place i ne = elim (cases_lt i (length claims)) [
-      | inl lt ↦
-          let none : Option Claim = None in
-          let within : i < length next = omega (arith, lt, length-set claims k (Some c)) in
-          slice_get-get_or next i none within ∙ ap Some (get_or-set_other claims k i (Some c) none ne) ∙ sym (slice_get-get_or claims i none lt)
-      | inr ge ↦ slice_get_past next i (omega (arith, ge, length-set claims k (Some c))) ∙ sym (slice_get_past claims i ge)
-    ]
+    | inl lt ↦
+        let none : Option Claim = None in
+        let within : i < length next = omega (arith, lt, length-set claims k (Some c)) in
+        slice_get-get_or next i none within ∙ ap Some (get_or-set_other claims k i (Some c) none ne) ∙ sym (slice_get-get_or claims i none lt)
+    | inr ge ↦ slice_get_past next i (omega (arith, ge, length-set claims k (Some c))) ∙ sym (slice_get_past claims i ge)
+  ]
 
   no_entry : (o : Option (Option Claim)) → slice_get claims k ≡ o → entry_from k o ≡ None
   no_entry None e = refl
@@ -128,19 +128,19 @@ module _ (claims : List (Option Claim)) (k : ℕ) (c : Claim) (late : c.told ≡
 
   own_place : entry_at next k ≡ entry_at claims k
   own_place = elim (cases_lt k (length claims)) [
-      | inl lt ↦
-          let none : Option Claim = None in
-          let within : k < length next = omega (arith, lt, length-set claims k (Some c)) in
-          ap (entry_from k) (slice_get-get_or next k none within ∙ ap Some (get_or-set_same claims k (Some c) none lt))
-          ∙ ap (λ t. entry_for k t c) late ∙ sym (no_entry (slice_get claims k) refl)
-      | inr ge ↦ ap (entry_from k) (slice_get_past next k (omega (arith, ge, length-set claims k (Some c))) ∙ sym (slice_get_past claims k ge))
-    ]
+    | inl lt ↦
+        let none : Option Claim = None in
+        let within : k < length next = omega (arith, lt, length-set claims k (Some c)) in
+        ap (entry_from k) (slice_get-get_or next k none within ∙ ap Some (get_or-set_same claims k (Some c) none lt))
+        ∙ ap (λ t. entry_for k t c) late ∙ sym (no_entry (slice_get claims k) refl)
+    | inr ge ↦ ap (entry_from k) (slice_get_past next k (omega (arith, ge, length-set claims k (Some c))) ∙ sym (slice_get_past claims k ge))
+  ]
 
   entry_same : (i : ℕ) → entry_at next i ≡ entry_at claims i
   entry_same i = elim (eqb_tells i k) [
-      | inl same ↦ subst (λ n. entry_at next n ≡ entry_at claims n) (sym same.1) own_place
-      | inr other ↦ ap (entry_from i) (other_place i other.1)
-    ]
+    | inl same ↦ subst (λ n. entry_at next n ≡ entry_at claims n) (sym same.1) own_place
+    | inr other ↦ ap (entry_from i) (other_place i other.1)
+  ]
 
   pub entries_same : entries_of next ≡ entries_of claims
   entries_same =
@@ -186,9 +186,9 @@ module _ (v : ServerView) (said : SaidView) (cipher : List Bool) (t : Submitted)
 
   runs_on : IsRunning (standing_of v) → IsRunning (standing_of after_claim)
   runs_on h = elim (bool_is v.run.window.closed) [
-      | inl shut ↦ subst (λ (x : Inventory). IsRunning (standing_with x)) (sym (inventory_same shut)) h
-      | inr isnt ↦ record { course = h.course; kept = h.kept; inventories = h.inventories; strings = h.strings; stage = subst (λ (x : Stage). IsAtStage x (standing_of after_claim)) (sym (s.is_open isnt).1) tt }
-    ]
+    | inl shut ↦ subst (λ (x : Inventory). IsRunning (standing_with x)) (sym (inventory_same shut)) h
+    | inr isnt ↦ record { course = h.course; kept = h.kept; inventories = h.inventories; strings = h.strings; stage = subst (λ (x : Stage). IsAtStage x (standing_of after_claim)) (sym (s.is_open isnt).1) tt }
+  ]
     where
       bool_is : (b : Bool) → (b ≡ true) ⊎ (b ≡ false)
       bool_is true = inl refl

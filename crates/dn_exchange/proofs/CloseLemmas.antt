@@ -1,5 +1,5 @@
 -- What follows on the closing of a window.
-use Rattle.std.proofs.Common.{◌≡◌, ◌+◌, cond, Bool, true, false, List, [], ◌∷◌, ◌++◌, refl, sym, ap, subst, ◌∙◌}
+use Rattle.std.proofs.Common.{◌≡◌, ◌+◌, cond, Bool, true, false, List, [], ◌∷◌, ◌++◌, refl, ap, subst, ◌∙◌}
 use Rattle.std.specs.Prelude.{not, ◌&&◌, nat_le}
 use Rattle.dn_record_types.specs.declared.statement.Statement.{Statement}
 use Rattle.dn_record_types.specs.declared.statement.Statement.TheVariants as kinds
@@ -7,11 +7,10 @@ use Rattle.dn_server.specs.declared.act.Act.{Act}
 use Rattle.dn_server.specs.declared.act.Act.TheVariants as acts
 use Rattle.dn_server.specs.declared.parts.Parts.{Parts}
 use Rattle.dn_server.specs.declared.run.Stage.TheVariants as stages
-use Rattle.dn_server.specs.Server.{ServerView, others_of, post_next}
+use Rattle.dn_server.specs.Server.{ServerView}
 use Rattle.dn_server.specs.Parts.{live}
 use Rattle.dn_rounds.specs.Going.{GoesOn, HasLeaf}
 use Rattle.dn_rounds.specs.Sound.{Became}
-use Rattle.dn_rounds.specs.Spoken.{spoken}
 use Rattle.dn_rounds.specs.declared.going.Due.TheVariants as dues
 use Rattle.dn_window.specs.Window.{WindowState, is_due, ticked}
 use Rattle.dn_server.specs.declared.answer.Answer.{Answer}

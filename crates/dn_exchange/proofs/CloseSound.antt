@@ -1,14 +1,12 @@
 -- A sound server can close its window, and stays sound.
-use Rattle.std.proofs.Common.{◌≡◌, ◌≢◌, ℕ, ◌+◌, ◌<◌, ◌≤◌, Bool, true, false, List, length, Some, refl, sym, ap, subst, ◌∙◌, arith}
+use Rattle.std.proofs.Common.{◌≡◌, ◌≢◌, Bool, true, false, List, length, refl, sym, ap, subst, ◌∙◌, arith}
 use Rattle.std.specs.Prelude.{All, slice_index_or}
 use Rattle.dn_record_types.specs.declared.inventory.Inventory.{Inventory}
 use Rattle.dn_record_types.specs.declared.statement.Statement.{Statement}
 use Rattle.dn_record_types.specs.declared.statement.Statement.TheVariants as kinds
 use Rattle.dn_records.specs.Records.{kind_byte}
-use Rattle.dn_seal.specs.Dealt.{server}
-use Rattle.dn_seal.specs.Signer.{CanSign}
 use Rattle.dn_cert.specs.Signed.{EntryVerifies}
-use Rattle.dn_window.specs.Window.{WindowState, clients_of, has_of}
+use Rattle.dn_window.specs.Window.{WindowState}
 use Rattle.dn_server.specs.declared.parts.Parts.{Parts}
 use Rattle.dn_server.specs.declared.run.Stage.TheVariants as stages
 use Rattle.dn_server.specs.Parts.{live}
@@ -16,7 +14,7 @@ use Rattle.dn_server.specs.Server.{ServerView}
 use Rattle.dn_rounds.specs.Going.{IsFree, HasLeaf, says}
 use Rattle.dn_rounds.specs.Spoken.{spoken}
 use Rattle.dn_exchange.specs.Closing.{inventory_of, with_window}
-use Rattle.dn_exchange.specs.Ready.{CanClose, CanList, in_window}
+use Rattle.dn_exchange.specs.Ready.{CanClose, in_window}
 use Rattle.dn_exchange.specs.Invariant.{IsSound, IsRunning, standing_of}
 use Rattle.dn_exchange.proofs.ListSound.{inventory_verifies, inventory_fits}
 use Rattle.dn_exchange.proofs.StepSound.{grows, says_sound}

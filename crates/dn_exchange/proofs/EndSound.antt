@@ -1,5 +1,5 @@
 -- A server whose run has ended stays sound.
-use Rattle.std.proofs.Common.{◌≡◌, ◌+◌, ◌≤◌, ℕ, true, false, sym, subst, arith}
+use Rattle.std.proofs.Common.{◌≡◌, true, false, sym, subst, arith}
 use Rattle.dn_server.specs.declared.answer.Answer.{Answer}
 use Rattle.dn_exchange.specs.Ending.{Abandons}
 use Rattle.dn_exchange.specs.Ending.Abandons.{is_idle, abandons}

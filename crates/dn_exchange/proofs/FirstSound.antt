@@ -1,5 +1,5 @@
 -- A server as it is made is sound, and one that has just opened a round.
-use Rattle.std.proofs.Common.{◌≡◌, ◌≢◌, ◌+◌, ◌≤◌, ◌<◌, ◌^◌, ◌*◌, ℕ, true, false, List, [], length, Some, None, refl, sym, ap, subst, ◌∙◌, arith, inl, inr}
+use Rattle.std.proofs.Common.{◌≡◌, ◌+◌, ◌≤◌, ◌<◌, ◌^◌, ℕ, true, false, List, length, Some, None, refl, sym, ap, subst, ◌∙◌, arith, inl, inr}
 use Rattle.std.specs.Prelude.{Option, ◌⊎◌, replicate, slice_get}
 use Rattle.std.proofs.Common.{get_or}
 use Rattle.std.proofs.lemmas.Bool.{cases_lt}
@@ -10,8 +10,7 @@ use Rattle.dn_seal.specs.Said.{SaidView, IsSaid, IsUnder}
 use Rattle.dn_server.specs.Keeping.{round_of}
 use Rattle.dn_layout.specs.Layout.{bits_of}
 use Rattle.dn_wire.specs.declared.ids.Round.{Round}
-use Rattle.dn_window.specs.Window.{opened, clients_of}
-use Rattle.dn_cert.specs.Chain.{Holds, IsLatestBelow, IsLayoutAfter}
+use Rattle.dn_cert.specs.Chain.{IsLatestBelow, IsLayoutAfter}
 use Rattle.dn_lms.specs.Key.{IsKey, leaf_count}
 use Rattle.dn_lms.specs.Signature.{public_key}
 use Rattle.dn_server.specs.declared.answer.Answer.{Answer}
@@ -28,7 +27,7 @@ use Rattle.dn_cert.specs.Certificate.{IsOfRoster}
 use Rattle.dn_exchange.specs.Making.{IsGroup, first_server}
 use Rattle.dn_exchange.specs.Opening.{Opens, IsOld, IsSmall, fresh_run, expected_by}
 use Rattle.dn_exchange.specs.Opening.Opens.{is_old, is_running, is_spent, opens}
-use Rattle.dn_exchange.specs.Invariant.{IsSound, IsRunning, IsCourse, AreClaims, standing_of}
+use Rattle.dn_exchange.specs.Invariant.{IsSound, IsRunning, IsCourse, standing_of}
 
 -- nobody has a claim yet
 none_claimed : (n i : ℕ) (c : Claim) → slice_get (replicate n (let none : Option Claim = None in none)) i ≡ Some (Some c) → ⊥
@@ -42,6 +41,7 @@ none_claimed n i c e =
   where
     apart : None ≡ Some c → ⊥
     apart h = cc
+
     some_is : (a b : Option Claim) → Some a ≡ Some b → a ≡ b
     some_is a b h = cc
 

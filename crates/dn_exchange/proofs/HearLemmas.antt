@@ -1,9 +1,8 @@
 -- Hearing a statement of the round.
-use Rattle.std.proofs.Common.{◌≡◌, ◌≢◌, ◌≤◌, ℕ, true, List, [], ◌∷◌, Some, None, refl, sym, ap, subst, ◌∙◌, arith, inl, inr}
+use Rattle.std.proofs.Common.{◌≡◌, ◌≢◌, ◌≤◌, ℕ, true, [], ◌∷◌, Some, None, ap, arith, inl, inr}
 use Rattle.std.specs.Prelude.{option_map}
 use Rattle.dn_wire.specs.declared.ids.Round.{Round}
 use Rattle.dn_cert.proofs.ChainLemmas.{round_is}
-use Rattle.dn_record_types.specs.declared.statement.Statement.{Statement}
 use Rattle.dn_records.specs.Records.{kind_byte}
 use Rattle.dn_seal.specs.Said.{SaidView}
 use Rattle.dn_server.specs.declared.answer.Answer.{Answer}

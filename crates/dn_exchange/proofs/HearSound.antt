@@ -1,25 +1,22 @@
 -- A server that keeps a statement without a fault stays sound.
-use Rattle.std.proofs.Common.{◌≡◌, ℕ, ◌++◌, ◌∷◌, [], true, false, Bool, List, length, Some, None, refl, sym, ap, subst, ◌∙◌}
-use Rattle.std.specs.Prelude.{All, Contains}
+use Rattle.std.proofs.Common.{◌≡◌, ℕ, ◌∷◌, [], Some, ap, subst, ◌∙◌}
+use Rattle.std.specs.Prelude.{Contains}
 use Rattle.std.proofs.lemmas.Option.{slice_get-get_or}
 use Rattle.dn_wire.specs.declared.ids.Round.{Round}
 use Rattle.std.proofs.lemmas.List.Elements.{All-append, All-cons, All-nil}
 use Rattle.dn_cert.proofs.Orders.{All-from_contains}
-use Rattle.dn_record_types.specs.declared.body.Body.{Body}
 use Rattle.dn_record_types.specs.declared.inventory.Entry.{Entry}
 use Rattle.dn_record_types.specs.declared.inventory.Inventory.{Inventory}
 use Rattle.dn_record_types.specs.declared.statement.Statement.{Statement}
-use Rattle.dn_record_types.specs.declared.statement.Statement.TheVariants as kinds
 use Rattle.dn_seal.specs.Said.{SaidView, IsSaid, IsUnder}
 use Rattle.dn_cert.specs.Signed.{EntryVerifies}
 use Rattle.dn_server.specs.declared.parts.Parts.{Parts}
-use Rattle.dn_server.specs.declared.run.Stage.TheVariants as stages
-use Rattle.dn_server.specs.Server.{ServerView, kept_of, statement_of}
+use Rattle.dn_server.specs.Server.{ServerView}
 use Rattle.dn_server.specs.Keeping.{round_of}
 use Rattle.dn_server.specs.Parts.{live}
 use Rattle.dn_exchange.specs.Hearing.{IsFaultless, AllVerify, with_kept}
 use Rattle.dn_exchange.specs.Ready.{CanHear, in_kept}
-use Rattle.dn_exchange.specs.Invariant.{IsSound, IsRunning, standing_of}
+use Rattle.dn_exchange.specs.Invariant.{IsSound, standing_of}
 use Rattle.dn_exchange.proofs.KeptSound.{IsGood, runs_with}
 use Rattle.dn_exchange.proofs.SteadyLemmas.{steady}
 

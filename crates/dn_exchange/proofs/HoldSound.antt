@@ -1,6 +1,6 @@
 -- A server that takes a certificate stays sound.
 use Rattle.std.proofs.Common.{◌≡◌, ◌≢◌, ℕ, List, length, refl, sym, ap, subst, ◌∙◌, inl, inr}
-use Rattle.std.specs.Prelude.{◌⊎◌, All, Contains}
+use Rattle.std.specs.Prelude.{All}
 use Rattle.std.proofs.lemmas.List.Elements.{All-contains}
 use Rattle.dn_record_types.specs.declared.body.Body.{Body}
 use Rattle.dn_roster.specs.Roster.{RosterView}
@@ -13,10 +13,10 @@ use Rattle.dn_cert.proofs.Orders.{All-from_contains}
 use Rattle.dn_server.specs.declared.answer.Answer.{Answer}
 use Rattle.dn_server.specs.declared.run.Stage.{Stage}
 use Rattle.dn_server.specs.declared.run.Stage.TheVariants as stages
-use Rattle.dn_server.specs.Server.{ServerView, ended}
+use Rattle.dn_server.specs.Server.{ServerView}
 use Rattle.dn_exchange.specs.Ending.{HoldsOn, IsOfRunning, with_certificate}
 use Rattle.dn_exchange.specs.Ending.HoldsOn.{is_known, has_no_prev, is_off_floor, is_of_other_length, is_held, ends_run}
-use Rattle.dn_exchange.specs.Invariant.{IsSound, IsRunning, IsAtStage, IsCourse, HasCommitted, HasSigned, IsDataList, Standing, standing_of}
+use Rattle.dn_exchange.specs.Invariant.{IsSound, IsRunning, IsAtStage, HasCommitted, HasSigned, IsDataList, Standing, standing_of}
 use Rattle.dn_exchange.proofs.EndSound.{ended_on}
 
 -- a certificate of the group has one of its bodies

@@ -1,14 +1,12 @@
 -- What is kept of a round grows.
-use Rattle.std.proofs.Common.{◌≡◌, ◌≢◌, ℕ, ◌+◌, ◌-◌, ◌<◌, ◌≤◌, ◌^◌, Bool, true, false, List, [], ◌∷◌, ◌++◌, length, Some, None, cond, refl, sym, ap, subst, ◌∙◌, arith, inl, inr}
-use Rattle.std.specs.Prelude.{Option, All, find, option_map, slice_get, IsSome, ◌⊎◌, ◌==◌, ◌&&◌}
+use Rattle.std.proofs.Common.{◌≡◌, ℕ, Bool, true, false, List, [], ◌∷◌, ◌++◌, length, Some, None, cond, refl, sym, ap, subst, ◌∙◌, inl, inr}
+use Rattle.std.specs.Prelude.{Option, All, find, option_map, IsSome, ◌⊎◌}
 use Rattle.std.proofs.lemmas.List.Elements.{All-append, All-cons, All-nil}
-use Rattle.dn_wire.specs.declared.ids.Round.{Round}
 use Rattle.dn_record_types.specs.declared.body.Body.{Body}
 use Rattle.dn_record_types.specs.declared.inventory.Inventory.{Inventory}
 use Rattle.dn_record_types.specs.declared.statement.Statement.{Statement}
 use Rattle.dn_record_types.specs.declared.statement.Statement.TheVariants as kinds
 use Rattle.dn_records.specs.Records.{kind_byte}
-use Rattle.dn_roster.specs.Roster.{RosterView}
 use Rattle.dn_seal.specs.Dealt.{server}
 use Rattle.dn_seal.specs.Said.{SaidView, IsSaid, IsUnder}
 use Rattle.dn_cert.specs.Signed.{EntryVerifies}
@@ -16,7 +14,7 @@ use Rattle.dn_server.specs.declared.run.Stage.{Stage}
 use Rattle.dn_server.specs.declared.run.Stage.TheVariants as stages
 use Rattle.dn_server.specs.Justified.{servers_of}
 use Rattle.dn_server.specs.Server.{is_of, kept_of, statement_of, AreKept}
-use Rattle.dn_server.specs.Keeping.{round_of, AreOfRound, HasAll}
+use Rattle.dn_server.specs.Keeping.{round_of, HasAll}
 use Rattle.dn_server.proofs.KeptLemmas.{kept_kind, kept_by}
 use Rattle.dn_exchange.specs.Invariant.{IsRunning, IsAtStage, AreKeptWell, AreInventoriesGood, AreStringsLong, IsDataList, HasListed, HasCommitted, HasSigned, Standing}
 

@@ -1,8 +1,7 @@
 -- A server that lists at the closing of its window stays sound.
-use Rattle.std.proofs.Common.{◌≡◌, ◌≢◌, ℕ, zero, suc, ◌+◌, ◌<◌, ◌≤◌, ◌^◌, Bool, true, false, List, [], ◌∷◌, length, map, Some, None, refl, sym, ap, subst, ◌∙◌, arith}
+use Rattle.std.proofs.Common.{◌≡◌, ℕ, zero, suc, ◌+◌, ◌<◌, ◌≤◌, ◌^◌, List, [], ◌∷◌, length, map, Some, None, refl, sym, ap, subst, ◌∙◌, arith}
 use Rattle.std.specs.Prelude.{Option, All, Contains, slice_get}
-use Rattle.std.specs.List.{filter_map, cons_option, AllByRecursion, range_with_len}
-use Rattle.std.proofs.lemmas.List.Elements.{All-contains, All-contains_itself, All-weaker}
+use Rattle.std.specs.List.{filter_map, cons_option, range_with_len}
 use Rattle.dn_cert.proofs.Orders.{All-from_contains}
 use Rattle.dn_bits.specs.Bits.{below}
 use Rattle.dn_hash.specs.Digests.{cipher_digest_of}
@@ -12,19 +11,17 @@ use Rattle.dn_lms.proofs.SizeLemmas.{verified_short}
 use Rattle.dn_record_types.specs.declared.inventory.Entry.{Entry}
 use Rattle.dn_record_types.specs.declared.inventory.Inventory.{Inventory}
 use Rattle.dn_record_types.specs.declared.statement.Statement.TheVariants as kinds
-use Rattle.dn_record_types.specs.Lists.{AscendFrom, Ascend, FitsRow}
-use Rattle.dn_record_types.specs.Records.{entry, IsStatement}
+use Rattle.dn_record_types.specs.Lists.{AscendFrom, FitsRow}
+use Rattle.dn_record_types.specs.Records.{entry}
 use Rattle.dn_seal.specs.Dealt.{server}
 use Rattle.dn_seal.specs.Signer.{CanSign}
-use Rattle.dn_seal.specs.Sizes.{HasShortSignatures}
 use Rattle.dn_seal.proofs.SizeLemmas.{can_sign}
 use Rattle.dn_cert.specs.Signed.{EntryVerifies}
 use Rattle.dn_server.specs.declared.claims.Claim.{Claim}
 use Rattle.dn_server.specs.Server.{ServerView}
-use Rattle.dn_exchange.specs.Closing.{entry_at, entry_from, entries_of, inventory_of}
-use Rattle.dn_exchange.specs.Invariant.{IsSound, IsRunning, IsClaim, claimed_entry, standing_of}
+use Rattle.dn_exchange.specs.Closing.{entry_at, entries_of, inventory_of}
+use Rattle.dn_exchange.specs.Invariant.{IsSound}
 use Rattle.dn_exchange.proofs.ReadyLemmas.{in_filter_map, entry_found, by_recursion}
-use Rattle.dn_exchange.proofs.StepSound.{low_number}
 
 -- a client's digest has 32 bytes
 cipher_digest_long : (r i : ℕ) (c : List ℕ) → length (cipher_digest_of r i c) ≡ 32

@@ -1,6 +1,6 @@
 -- Counting the clients of a server.
-use Rattle.std.proofs.Common.{◌≡◌, ◌≢◌, ℕ, ◌+◌, ◌%◌, true, false, [], ◌∷◌, refl, sym, ap, ◌∙◌, arith, cond, inl, inr}
-use Rattle.std.specs.Prelude.{Bool, count_by, ◌==◌}
+use Rattle.std.proofs.Common.{◌≡◌, ◌≢◌, ℕ, ◌+◌, ◌%◌, [], ◌∷◌, ap, ◌∙◌, arith, cond}
+use Rattle.std.specs.Prelude.{count_by, ◌==◌}
 use Rattle.std.proofs.lemmas.List.Sums.{sum_by-append}
 use Rattle.std.proofs.lemmas.Bool.{eq-eqb}
 use Rattle.dn_bits.specs.Bits.{below}

@@ -1,10 +1,10 @@
 -- A server that is sound can take the step that is due.
-use Rattle.std.proofs.Common.{◌≡◌, ◌≢◌, ℕ, zero, suc, ◌+◌, ◌<◌, ◌≤◌, ◌^◌, Bool, true, false, List, [], ◌∷◌, length, map, get_or, Some, None, refl, sym, ap, subst, ◌∙◌, arith, inl, inr}
-use Rattle.std.specs.Prelude.{Option, All, Contains, filter, filter_map, slice_get, is_some, IsTrue, ◌⊎◌, ◌==◌, nat_lt, ◌*◌}
+use Rattle.std.proofs.Common.{◌≡◌, ℕ, zero, suc, ◌<◌, ◌≤◌, ◌^◌, Bool, true, false, List, [], ◌∷◌, length, map, get_or, Some, None, refl, sym, ap, subst, ◌∙◌, arith, inl, inr}
+use Rattle.std.specs.Prelude.{Option, All, Contains, filter_map, slice_get, is_some, IsTrue, ◌⊎◌, ◌==◌, nat_lt, ◌*◌}
 use Rattle.std.specs.List.{AllByRecursion, cons_option}
 use Rattle.std.proofs.lemmas.Bool.{false≢true, eqb-true, and_parts}
 use Rattle.std.proofs.lemmas.Option.{same_Some, slice_get_within, slice_get-get_or}
-use Rattle.std.proofs.lemmas.List.Elements.{All-head, All-tail, All-contains, All-weaker, All-filter, All-contains_itself, All-from_get_or, filter_passes}
+use Rattle.std.proofs.lemmas.List.Elements.{All-head, All-tail, All-contains, All-weaker, All-filter, All-contains_itself, filter_passes}
 use Rattle.dn_wire.specs.declared.ids.ClientId.{ClientId}
 use Rattle.dn_wire.specs.declared.ids.Round.{Round}
 use Rattle.dn_bits.specs.Bits.{below, bytes_of, sum_bits}
@@ -16,12 +16,10 @@ use Rattle.dn_record_types.specs.declared.body.Body.{Body}
 use Rattle.dn_record_types.specs.declared.body.Listed.{Listed}
 use Rattle.dn_record_types.specs.declared.inventory.Entry.{Entry}
 use Rattle.dn_record_types.specs.declared.inventory.Inventory.{Inventory}
-use Rattle.dn_record_types.specs.declared.payload.Payload.TheVariants as payloads
 use Rattle.dn_record_types.specs.declared.statement.Statement.{Statement}
 use Rattle.dn_record_types.specs.declared.statement.Statement.TheVariants as kinds
 use Rattle.dn_record_types.specs.declared.statement.WordTold.{WordTold}
 use Rattle.dn_record_types.specs.declared.statement.WordTold.TheVariants as words
-use Rattle.dn_records.specs.Records.{IsPayload}
 use Rattle.dn_seal.specs.Dealt.{server}
 use Rattle.dn_seal.specs.Said.{SaidView, IsSaid}
 use Rattle.dn_seal.specs.Signer.{CanSign}
@@ -29,19 +27,18 @@ use Rattle.dn_seal.proofs.SizeLemmas.{can_sign}
 use Rattle.dn_cert.specs.Certificate.{IsOfRoster}
 use Rattle.dn_cert.specs.Chain.{CanFollow, count_at}
 use Rattle.dn_cert.specs.Signed.{EntryVerifies}
-use Rattle.dn_cert.specs.Trim.{IsInventory, IsOfLeast, IsTrim, given_to}
+use Rattle.dn_cert.specs.Trim.{IsInventory, IsOfLeast, given_to}
 use Rattle.dn_server.specs.declared.claims.Claim.{Claim}
 use Rattle.dn_server.specs.declared.parts.Parts.{Parts}
-use Rattle.dn_server.specs.declared.run.Run.{Run}
 use Rattle.dn_server.specs.declared.run.Stage.{Stage}
 use Rattle.dn_server.specs.declared.run.Stage.TheVariants as stages
 use Rattle.dn_server.specs.declared.run.Sum.{Sum}
 use Rattle.dn_server.specs.Parts.{live}
-use Rattle.dn_server.specs.Server.{ServerView, servers_in, is_of, kept_of, statement_of, AreKept}
+use Rattle.dn_server.specs.Server.{ServerView, is_of, statement_of}
 use Rattle.dn_server.proofs.KeptLemmas.{statement_said, All-find}
 use Rattle.dn_rounds.specs.Going.{IsListing, IsBodyDue, IsThinDue, IsUnopposed}
-use Rattle.dn_rounds.specs.Sound.{ListingsFit, ThinBodiesFit, BodiesFit, HasSum, IsClaimed, AreClaimed, IsSayable}
-use Rattle.dn_rounds.specs.Certifying.{CanStep, AreSignatures, IsCertifiable}
+use Rattle.dn_rounds.specs.Sound.{IsClaimed, AreClaimed}
+use Rattle.dn_rounds.specs.Certifying.{CanStep, IsCertifiable}
 use Rattle.dn_rounds.proofs.CommitLemmas.{inventories_fit}
 use Rattle.dn_rounds.proofs.ThinLemmas.{listed_few}
 use Rattle.dn_exchange.specs.Closing.{inventory_of, entry_at, entry_from, entry_for, entries_of}
@@ -159,8 +156,8 @@ module _ (v : ServerView) (sound : IsSound v) (running : IsRunning (standing_of 
       let within = client_within l c in
       let by = slice_get_within listing.inventories l.server.0 e.inventory e.there in
       let fits : IsInventory e.inventory =
-        All-contains IsInventory listing.inventories e.inventory (inventories_fit v running.kept.said listing.inventories listing.kept)
-        (got_contains listing.inventories l.server.0 e.inventory e.there) in
+      All-contains IsInventory listing.inventories e.inventory (inventories_fit v running.kept.said listing.inventories listing.kept)
+      (got_contains listing.inventories l.server.0 e.inventory e.there) in
       let row = from_recursion (FitsRow entry_row) e.inventory.entries e.entry fits.1.1.2 e.among in
       let long : length l.digest ≡ 32 = ap length (sym e.digest) ∙ row.1.0 in
       let low : l.client.0 < 2 ^ 32 = omega (arith, clients.1) in
@@ -175,7 +172,7 @@ module _ (v : ServerView) (sound : IsSound v) (running : IsRunning (standing_of 
   claimed_row has l c mine =
       let e = entered l c in
       let own : statement_of v.run.kept 3 l.server.0 ≡ Some (kinds.Inventory (inventory_of v.run)) =
-        subst (λ j. statement_of v.run.kept 3 j ≡ Some (kinds.Inventory (inventory_of v.run))) (sym mine) has in
+      subst (λ j. statement_of v.run.kept 3 j ≡ Some (kinds.Inventory (inventory_of v.run))) (sym mine) has in
       let both : Some (kinds.Inventory e.inventory) ≡ Some (kinds.Inventory (inventory_of v.run)) = sym e.kept ∙ own in
       let same : e.inventory ≡ inventory_of v.run = cc in
       let among : Contains (entries_of v.run.claims) e.entry = subst (λ (x : Inventory). Contains x.entries e.entry) same e.among in
@@ -202,8 +199,8 @@ module _ (v : ServerView) (sound : IsSound v) (running : IsRunning (standing_of 
       let passes : All (λ l. mine l ≡ true) given = filter_passes mine listed in
       All-weaker (Contains given) (IsClaimed v.run)
       (λ l c.
-        claimed_row has l (All-contains (Contains listed) given l inside c)
-        (eqb-true l.server.0 v.seat.number (All-contains (λ x. mine x ≡ true) given l passes c)))
+      claimed_row has l (All-contains (Contains listed) given l inside c)
+      (eqb-true l.server.0 v.seat.number (All-contains (λ x. mine x ≡ true) given l passes c)))
       given (All-contains_itself given)
 
 -- ---- bodies
@@ -228,8 +225,8 @@ module _ (v : ServerView) (sound : IsSound v) (running : IsRunning (standing_of 
       let parts = and_parts (v.seat.roster.version == 2) (nat_lt (100 * length due.listed) (95 * count_at v.chain v.run.prev.0)) due.listing.floor in
       let two : v.seat.roster.version ≡ 2 = eqb-true v.seat.roster.version 2 parts.0 in
       let fits =
-        body_fits v.seat.roster.version v.run.r v.run.prev true due.listed [] [] sound.seated.roster.version running.course.small before (λ is. two)
-        (few_listed v sound running true due.listed due.listing) due.listing.trim.ascends (rows_fit v sound running true due.listed due.listing) (omega arith) tt (omega arith) in
+      body_fits v.seat.roster.version v.run.r v.run.prev true due.listed [] [] sound.seated.roster.version running.course.small before (λ is. two)
+      (few_listed v sound running true due.listed due.listing) due.listing.trim.ascends (rows_fit v sound running true due.listed due.listing) (omega arith) tt (omega arith) in
       subst (λ (x : Body). CanSign (server v.seat.number) (kinds.Sign x)) (sym due.is)
       (can_sign (server v.seat.number) (kinds.Sign record { version = v.seat.roster.version; r = v.run.r; prev = v.run.prev; thin = true; listed = due.listed; digests = []; out = [] }) low_number fits tt)
 
@@ -238,23 +235,23 @@ module _ (v : ServerView) (sound : IsSound v) (running : IsRunning (standing_of 
       let servers = sound.seated.roster.servers in
       let same : has.sum ≡ sum = same_Some has.sum sum (sym has.has ∙ due.has) in
       let first : IsListing v false has.sum.listed =
-        record { inventories = has.listing.inventories; kept = has.listing.kept; trim = has.listing.trim; floor = has.listing.floor } in
+      record { inventories = has.listing.inventories; kept = has.listing.kept; trim = has.listing.trim; floor = has.listing.floor } in
       let listing : IsListing v false sum.listed = subst (λ (x : Sum). IsListing v false x.listed) same first in
       let kept = running.kept.said in
       let each : All (λ (d : List ℕ). length d ≡ 32) due.digests =
-        λ k d lt. (statement_fits v.run.kept 4 k (kinds.Commit v.run.r (get_or due.digests k d)) kept
-          (due.commits.say k (get_or due.digests k d) (slice_get-get_or due.digests k d lt))).1 in
+      λ k d lt. (statement_fits v.run.kept 4 k (kinds.Commit v.run.r (get_or due.digests k d)) kept
+      (due.commits.say k (get_or due.digests k d) (slice_get-get_or due.digests k d lt))).1 in
       let strings : All (IsLong v.run.bits) due.strings =
-        λ k d lt. running.strings k (get_or due.strings k d) (due.reveals.say k (get_or due.strings k d) (slice_get-get_or due.strings k d lt)) in
+      λ k d lt. running.strings k (get_or due.strings k d) (due.reveals.say k (get_or due.strings k d) (slice_get-get_or due.strings k d lt)) in
       let long : length (sum_bits v.run.bits due.strings) ≡ v.run.bits = length-sum_all v.run.bits due.strings strings in
       let fits =
-        body_fits v.seat.roster.version v.run.r v.run.prev false sum.listed due.digests (sum_bits v.run.bits due.strings) sound.seated.roster.version running.course.small before
-        (λ is. absurd (false≢true is)) (few_listed v sound running false sum.listed listing) listing.trim.ascends (rows_fit v sound running false sum.listed listing)
-        (omega (arith, due.commits.each, servers.1)) (by_recursion (λ (d : List ℕ). length d ≡ 32) due.digests each) (omega (arith, running.course.few)) in
+      body_fits v.seat.roster.version v.run.r v.run.prev false sum.listed due.digests (sum_bits v.run.bits due.strings) sound.seated.roster.version running.course.small before
+      (λ is. absurd (false≢true is)) (few_listed v sound running false sum.listed listing) listing.trim.ascends (rows_fit v sound running false sum.listed listing)
+      (omega (arith, due.commits.each, servers.1)) (by_recursion (λ (d : List ℕ). length d ≡ 32) due.digests each) (omega (arith, running.course.few)) in
       subst (λ (x : Body). CanSign (server v.seat.number) (kinds.Sign x)) (sym due.is)
       (can_sign (server v.seat.number)
-        (kinds.Sign record { version = v.seat.roster.version; r = v.run.r; prev = v.run.prev; thin = false; listed = sum.listed; digests = due.digests; out = sum_bits v.run.bits due.strings })
-        low_number fits tt)
+      (kinds.Sign record { version = v.seat.roster.version; r = v.run.r; prev = v.run.prev; thin = false; listed = sum.listed; digests = due.digests; out = sum_bits v.run.bits due.strings })
+      low_number fits tt)
 
 -- ---- certificates
 
@@ -274,9 +271,9 @@ certifiable p sound running has b kept =
       group = subst (λ x. IsOfRoster p.identity.roster x) same has.group;
       follows = subst (λ x. CanFollow p.chain x) same has.follows;
       fits = λ signatures are.
-        let short : All (λ (s : List ℕ). length s < 2 ^ 16) signatures =
+          let short : All (λ (s : List ℕ). length s < 2 ^ 16) signatures =
           λ k d lt. (are.by k (get_or signatures k d) (slice_get-get_or signatures k d lt)).short in
-        ((small, fits), (omega (arith, are.each, servers.1), by_recursion (λ (s : List ℕ). length s < 2 ^ 16) signatures short));
+          ((small, fits), (omega (arith, are.each, servers.1), by_recursion (λ (s : List ℕ). length s < 2 ^ 16) signatures short));
     }
 
 -- ---- each stage
@@ -285,14 +282,14 @@ at_stage : (p : Parts) → IsSound (live p) → IsRunning (standing_of (live p))
 at_stage p sound running stages.Collecting at = tt
 at_stage p sound running stages.Listed at =
     let clients = sound.seated.roster.clients in
-    let seeds : length p.seeds.items ≡ length p.identity.roster.clients = sound.seated.seeds in
-    (
-      (λ thin listed listing.
-        (claimed_rows (live p) sound running thin listed listing at,
-        subst (λ n. All (λ (l : Listed). l.client.0 < n) listed) (sym seeds) (clients_within (live p) sound running thin listed listing))),
+    let seeds : length p.seeds.items ≡ length p.identity.roster.clients = sound.seated.seeds in (
+      (λ thin listed listing. (
+        claimed_rows (live p) sound running thin listed listing at,
+        subst (λ n. All (λ (l : Listed). l.client.0 < n) listed) (sym seeds) (clients_within (live p) sound running thin listed listing),
+      )),
       (λ b due. thin_fits (live p) sound running b due),
       omega (arith, clients.1),
-      sound.workers
+      sound.workers,
     )
 at_stage p sound running stages.Committed at = ((at.1.sum, at.1.has, at.1.long), running.course.few)
 at_stage p sound running stages.Revealed at =

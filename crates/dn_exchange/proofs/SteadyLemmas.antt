@@ -1,9 +1,6 @@
 -- A sound server can go on as far as it can.
-use Rattle.std.proofs.Common.{◌≡◌, true, List}
-use Rattle.dn_server.specs.declared.act.Act.{Act}
 use Rattle.dn_server.specs.declared.parts.Parts.{Parts}
 use Rattle.dn_server.specs.Parts.{live}
-use Rattle.dn_rounds.specs.Going.{Steps}
 use Rattle.dn_rounds.specs.Certifying.{IsSteady}
 use Rattle.dn_exchange.specs.Invariant.{IsSound}
 use Rattle.dn_exchange.proofs.ReadyLemmas.{ready}

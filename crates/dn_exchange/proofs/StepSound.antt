@@ -1,9 +1,8 @@
 -- A server that goes on in its round stays sound.
-use Rattle.std.proofs.Common.{◌≡◌, ◌≢◌, ℕ, ◌+◌, ◌-◌, ◌<◌, ◌≤◌, ◌^◌, Bool, true, false, List, [], ◌∷◌, ◌++◌, length, get_or, Some, None, refl, sym, ap, subst, ◌∙◌, arith, inl, inr}
-use Rattle.std.specs.Prelude.{Option, All, Contains, option_map, slice_get, IsSome, ◌⊎◌, ◌&&◌}
+use Rattle.std.proofs.Common.{◌≡◌, ◌≢◌, ℕ, ◌<◌, ◌^◌, Bool, true, false, List, [], ◌∷◌, ◌++◌, length, get_or, Some, None, refl, sym, ap, subst, ◌∙◌, arith, inl, inr}
+use Rattle.std.specs.Prelude.{Option, All, Contains, option_map, IsSome, ◌⊎◌, ◌&&◌}
 use Rattle.std.proofs.lemmas.List.{length_push}
 use Rattle.std.proofs.lemmas.Option.{slice_get-get_or, slice_get_within}
-use Rattle.dn_wire.specs.declared.ids.Round.{Round}
 use Rattle.std.proofs.lemmas.Bool.{eq-eqb}
 use Rattle.dn_wire.specs.declared.ids.SignerId.{SignerId}
 use Rattle.dn_bits.specs.Bits.{bytes_of, sum_bits}
@@ -34,7 +33,7 @@ use Rattle.dn_server.specs.Justified.{servers_of, digest_by}
 use Rattle.dn_server.specs.Server.{ServerView, is_server, is_of, kept_of, statement_of, said_next, course_of, ended, AreKept}
 use Rattle.dn_server.specs.Keeping.{round_of, HasAll}
 use Rattle.dn_server.proofs.SaidLemmas.{said_by-said}
-use Rattle.dn_server.proofs.KeptLemmas.{kept_kind, kept_by}
+use Rattle.dn_server.proofs.KeptLemmas.{kept_kind}
 use Rattle.dn_rounds.specs.Going.{IsFree, HasLeaf, IsListing, IsCommitDue, IsRevealDue, IsBodyDue, IsThinDue, IsUnopposed, says, with_own, commitment_of, past_with, thin_past, Step, Steps}
 use Rattle.dn_rounds.specs.Going.Step.{commits, reveals, signs, signs_thin, certifies, commit_conflicts, reveal_conflicts, body_opposed, thin_opposed}
 use Rattle.dn_rounds.specs.Going.Steps.{no_step, one_more}
@@ -45,7 +44,7 @@ use Rattle.dn_exchange.specs.Closing.{inventory_of}
 use Rattle.dn_exchange.proofs.EndSound.{ended_on, ended_sound}
 use Rattle.dn_exchange.proofs.HoldSound.{group_body, group_more}
 use Rattle.dn_exchange.proofs.ReadyLemmas.{client_within, thin_fits, full_fits}
-use Rattle.dn_exchange.proofs.KeptSound.{IsGood, more, runs_with, statement_stays, statement_comes, find_new, statement_found}
+use Rattle.dn_exchange.proofs.KeptSound.{IsGood, runs_with, statement_stays, statement_comes, find_new, statement_found}
 
 -- what is kept once the server has said a statement of its round
 pub record Grown (x : Standing) (own : ℕ) (s : Statement) (kept : List SaidView) : Type 0 where
@@ -304,9 +303,9 @@ module _ (v : ServerView) (sound : IsSound v) (runs : v.run.is_running ≡ true)
   rows_within thin listed l =
       All-weaker (Contains listed) (λ (x : Listed). (x.client.0 < length v.seat.roster.clients) × (x.server.0 < length v.seat.roster.servers))
       (λ x c.
-          let least = All-contains (IsOfLeast l.inventories) listed x l.trim.least c in
-          let by = slice_get_within l.inventories x.server.0 least.inventory least.there in
-          (client_within v sound run thin listed l x c, omega (arith, by, l.kept.each)))
+      let least = All-contains (IsOfLeast l.inventories) listed x l.trim.least c in
+      let by = slice_get_within l.inventories x.server.0 least.inventory least.there in
+      (client_within v sound run thin listed l x c, omega (arith, by, l.kept.each)))
       listed (All-contains_itself listed)
 
   -- a body with data

@@ -1,5 +1,5 @@
 -- What a server answers to a statement that a server made of a round, and what it is afterwards.
-use Rattle.std.specs.Prelude.{◌≡◌, ◌≢◌, ℕ, ◌<◌, ◌≤◌, ◌++◌, ◌⊎◌, Bool, true, false, List, [], ◌∷◌, length, Option, Some, None, MatchOption, slice_get}
+use Rattle.std.specs.Prelude.{◌≡◌, ◌≢◌, ℕ, ◌<◌, ◌++◌, ◌⊎◌, Bool, true, false, List, [], ◌∷◌, length, Option, Some, None, MatchOption, slice_get}
 use Rattle.std.specs.Int.{w64, to_be_bytes}
 use Rattle.dn_wire.specs.declared.ids.Round.{Round}
 use Rattle.dn_record_types.specs.declared.body.Body.{Body}
@@ -20,8 +20,6 @@ use Rattle.dn_server.specs.declared.answer.Reason.TheVariants as reasons
 use Rattle.dn_server.specs.declared.run.Run.{Run}
 use Rattle.dn_server.specs.declared.run.Stage.TheVariants as stages
 use Rattle.dn_exchange.specs.declared.hearing.Found.{Found}
-use Rattle.dn_seal.specs.Dealt.{server}
-use Rattle.dn_server.specs.Keeping.{round_of}
 use Rattle.dn_server.specs.Justified.{digest_by}
 use Rattle.dn_server.specs.Server.{ServerView, course_of, kept_of, statement_of, ended}
 use Rattle.dn_rounds.specs.Going.{GoesOn, spoiled_twice}
@@ -108,16 +106,6 @@ pub data HearsRound (v : ServerView) (j : ℕ) (r : Round) (said : SaidView) (an
   goes_on : (did : List Act) → r ≡ v.run.r → v.run.is_running ≡ true → kept_of v.run.kept (kind_byte said.statement) j ≡ None
       → IsFaultless v j said.statement → GoesOn (with_kept v said) did after
       → answer ≡ does did → HearsRound v j r said answer after
-
--- the statement is one that servers alone make
-abbrev pub IsOfServers : Statement → Type 0
-IsOfServers s = (3 ≤ kind_byte s) × (kind_byte s ≤ 8)
-
--- A statement comes. (Openings and what clients say of them are heard once they are built.)
-pub data Hears (v : ServerView) (said : SaidView) (answer : Answer) (after : ServerView) : Type 0 where
-  not_by_server : IsOfServers said.statement → ((j : ℕ) → said.signer ≢ server j) → answer ≡ ignored reasons.Kind → after ≡ v → Hears v said answer after
-  of_round : (j : ℕ) (r : Round) → said.signer ≡ server j → round_of said.statement ≡ Some r → HearsRound v j r said answer after → Hears v said answer after
-  of_other_kind : round_of said.statement ≡ None → answer ≡ ignored reasons.Kind → after ≡ v → Hears v said answer after
 
 -- ---- words of the bodies
 

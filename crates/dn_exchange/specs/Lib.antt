@@ -6,3 +6,5 @@ pub mod Hearing
 pub mod Ending
 pub mod Making
 pub mod Invariant
+pub mod Openings
+pub mod Listening

@@ -71,7 +71,11 @@ fn first_false(parts: &Parts, inventory: &Inventory) -> Result<Option<u32>, NoMe
 }
 
 /// The fault of an inventory.
-fn inventory_fault(parts: &Parts, j: ServerId, inventory: &Inventory) -> Result<Option<Found>, NoMemory>
+fn inventory_fault(
+    parts: &Parts,
+    j: ServerId,
+    inventory: &Inventory,
+) -> Result<Option<Found>, NoMemory>
     requires { length inventory.now.entries ≤ 512 }
     ensures { IfOk result (FaultFound (live parts.now) j.0 (kinds.Inventory inventory.now)) }
 {
@@ -136,12 +140,7 @@ fn commit_fault(
 }
 
 /// The fault of a ciphertext of the round's length.
-fn string_fault(
-    parts: &Parts,
-    j: ServerId,
-    r: Round,
-    s: &Bits,
-) -> Result<Option<Found>, NoMemory>
+fn string_fault(parts: &Parts, j: ServerId, r: Round, s: &Bits) -> Result<Option<Found>, NoMemory>
     requires round { AreOfRound r parts.now.run.kept }
     requires long { length s.now ≡ parts.now.run.bits }
     ensures { IfOk result (FaultFound (live parts.now) j.0 (kinds.Reveal r s.now)) }
@@ -157,12 +156,7 @@ fn string_fault(
 }
 
 /// The fault of a ciphertext.
-fn reveal_fault(
-    parts: &Parts,
-    j: ServerId,
-    r: Round,
-    s: &Bits,
-) -> Result<Option<Found>, NoMemory>
+fn reveal_fault(parts: &Parts, j: ServerId, r: Round, s: &Bits) -> Result<Option<Found>, NoMemory>
     requires { AreOfRound r parts.now.run.kept }
     ensures { IfOk result (FaultFound (live parts.now) j.0 (kinds.Reveal r s.now)) }
 {
@@ -287,7 +281,7 @@ pub(crate) fn hear_round<R: Threads + Sync>(
     said: &Said,
 ) -> Result<Answer, NoMemory>
     requires same { round_of said.now.statement ≡ Some r }
-    requires can { CanHear parts.old j.0 said.now }
+    requires can { r ≡ parts.old.run.r → CanHear parts.old j.0 said.now }
     ensures { IfOk result (λ a. HearsRound (live parts.old) j.0 r said.now a (live parts.new)) }
 {
     if parts.run.r.0 < r.0 {

@@ -7,6 +7,7 @@
 mod closing;
 mod ending;
 mod hearing;
+mod listening;
 mod making;
 mod opening;
 mod server_core;

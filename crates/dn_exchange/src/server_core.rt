@@ -9,16 +9,18 @@ ghost use Rattle.dn_exchange.specs.Opening.{Opens};
 ghost use Rattle.dn_exchange.specs.Submitting.{IsSubmission, TakesSubmission};
 ghost use Rattle.dn_exchange.specs.Closing.{Ticks, Shuts};
 ghost use Rattle.dn_exchange.specs.Ending.{Abandons, HoldsOn};
+ghost use Rattle.dn_exchange.specs.Listening.{Hears};
 ghost use Rattle.dn_exchange.specs.Making.{first_server};
 ghost use Rattle.dn_exchange.specs.Invariant.{IsSound};
 
 use crate::closing::{close, tick};
 use crate::ending::{abandon, hold};
+use crate::listening::hear;
 use crate::making::make;
 use crate::opening::open_round;
 use crate::submitting::submitted;
 use dn_bits::Bits;
-use dn_cert::Certificate;
+use dn_cert::{Certificate, Rules};
 use dn_memory::NoMemory;
 use dn_seal::{Dealt, Said};
 use dn_server::{Answer, Parts};
@@ -39,12 +41,13 @@ impl Model for ServerCore {
     ghost use Rattle.dn_server.specs.Parts.{view_of, live};
     ghost use Rattle.dn_server.specs.Server.{ServerView};
     ghost use Rattle.dn_exchange.specs.Invariant.{IsSound};
+    ghost use Rattle.dn_exchange.specs.Openings.{IsOpen};
 
     ghost Value = { ServerView };
 
     ghost view = { λ c. view_of c.parts c.is_spent };
 
-    ghost invariant = { λ c. c.is_spent ≡ false → IsSound (live c.parts) };
+    ghost invariant = { λ c. c.is_spent ≡ false → IsSound (live c.parts) × IsOpen (live c.parts) };
 }
 
 impl ServerCore {
@@ -124,6 +127,28 @@ impl ServerCore {
         }
         self.is_spent = true;
         let answer = close(rt, &mut self.parts)?;
+        self.is_spent = false;
+        Ok(answer)
+    }
+
+    /// Hears a statement. A round's of another server may let it go on with its round; an accusation, an opening or an answer to a challenge is
+    /// kept, and answered. `rules` say what an accusation must hold to.
+    pub fn hear<R: Threads + Sync, U: Rules>(
+        &mut self,
+        rt: &R,
+        rules: &U,
+        said: &Said,
+    ) -> Result<Answer, NoMemory>
+        requires { IsUnder self.old.seat.roster said.now }
+        ensures answer { IfOk result (λ a. Hears self.old said.now a self.new) }
+        ensures spent { OnErr result (self.new.spent ≡ true) }
+        ensures stays_spent { self.old.spent ≡ true → IsErr result }
+    {
+        if self.is_spent {
+            return Err(NoMemory);
+        }
+        self.is_spent = true;
+        let answer = hear(rt, rules, &mut self.parts, said)?;
         self.is_spent = false;
         Ok(answer)
     }

@@ -49,8 +49,7 @@ fn refusal(
     _signature: &[u8],
     cipher: &Bits,
 ) -> Result<Option<Answer>, NoMemory>
-    ensures {
-        let s : Submitted = record { who = who; r = r; prev = prev; client = client; digest = digest.now; signature = _signature.now; cipher = cipher.now } in
+    ensures { let s : Submitted = record { who = who; r = r; prev = prev; client = client; digest = digest.now; signature = _signature.now; cipher = cipher.now } in
         IfOk result (λ o. MatchOption o (IsFitting run.now s) (IsRefused run.now s)) }
 {
     if run.r.0 < r.0 {
@@ -139,8 +138,20 @@ fn claim(
     })?;
     let mut to = Vec::new(alloc);
     to.push(Member::Client(client))?;
-    let receipt = receipt(parts.identity.number().0, r.0, client.0, digest, word(is_closed));
-    post(alloc, &mut parts.identity, &mut acts, MemberList::of(to), receipt)?;
+    let receipt = receipt(
+        parts.identity.number().0,
+        r.0,
+        client.0,
+        digest,
+        word(is_closed),
+    );
+    post(
+        alloc,
+        &mut parts.identity,
+        &mut acts,
+        MemberList::of(to),
+        receipt,
+    )?;
     Ok(Answer::Acts(Acts::of(acts)))
 }
 
@@ -157,8 +168,7 @@ fn take(
 ) -> Result<Answer, NoMemory>
     requires window { who ≡ signers.Client client → client.0 < clients_of parts.old.run.window }
     requires claims { who ≡ signers.Client client → client.0 < length parts.old.run.claims }
-    ensures {
-        let s : Submitted = record { who = who; r = r; prev = prev; client = client; digest = digest; signature = signature.now; cipher = cipher.now } in
+    ensures { let s : Submitted = record { who = who; r = r; prev = prev; client = client; digest = digest; signature = signature.now; cipher = cipher.now } in
         IfOk result (λ a. Submits (live parts.old) s a (live parts.new)) }
 {
     let alloc = parts.alloc;
@@ -184,11 +194,7 @@ fn take(
 }
 
 /// Takes a client's submission, with its ciphertext.
-pub(crate) fn submitted(
-    parts: &mut Parts,
-    said: &Said,
-    cipher: &Bits,
-) -> Result<Answer, NoMemory>
+pub(crate) fn submitted(parts: &mut Parts, said: &Said, cipher: &Bits) -> Result<Answer, NoMemory>
     requires submission { IsSubmission said.now.statement }
     requires under { IsUnder parts.old.identity.roster said.now }
     requires window { clients_of parts.old.run.window ≡ length parts.old.identity.roster.clients }

@@ -1,8 +1,7 @@
-use Rattle.std.proofs.Common.{rules, ◌≡◌, ◌∙◌, List, [], ◌∷◌, Vec, Global, ap, subst, sym}
+use Rattle.std.proofs.Common.{rules, ◌≡◌, List, [], ◌∷◌, Vec, Global, ap, subst, sym}
 use Rattle.dn_record_types.specs.declared.inventory.Inventory.{Inventory}
 use Rattle.dn_record_types.specs.declared.statement.Statement.TheVariants as kinds
 use Rattle.dn_server.specs.declared.act.Act.{Act}
-use Rattle.dn_server.specs.declared.act.Act.TheVariants as acts
 use Rattle.dn_server.specs.declared.answer.Answer.TheVariants as answers
 use Rattle.dn_server.specs.declared.parts.Parts.{Parts}
 use Rattle.dn_server.specs.declared.run.Stage.TheVariants as stages
@@ -10,7 +9,7 @@ use Rattle.dn_server.specs.Parts.{live}
 use Rattle.dn_rounds.specs.Sound.{Became}
 use Rattle.dn_rounds.specs.declared.going.Due.{Due}
 use Rattle.dn_rounds.specs.declared.going.Due.TheVariants as dues
-use Rattle.dn_exchange.specs.Closing.{Closes, inventory_of}
+use Rattle.dn_exchange.specs.Closing.{Closes}
 use Rattle.dn_exchange.proofs.CloseLemmas.{listing_of, closing_told, closes_opposed, closes_said, closes_stuck}
 use Rattle.dn_exchange.proofs.closing.close_out.Goals as goal
 use Rattle.dn_exchange.proofs.closing.close_out.Goals.{in-Opposed, in-Stuck, in-Said+in_ok-go_on-in-Said, In_ok-due}
@@ -35,8 +34,7 @@ there p mid new l m e f at =
 pub returns : goal.returns
 returns g c =
     let p = c.args.parts.now in
-    let here = (goal.at.returns g c).In_ok-due in
-    (
+    let here = (goal.at.returns g c).In_ok-due in (
       c.match-due.acts.items,
       elim c.match-due.branch [
         | in-Opposed w ↦ there p c.say_due.new.parts c.match-due.parts c.say_due.new.acts c.match-due.acts w.parts-is w.acts-is (closes_opposed p c.say_due.new.parts c.say_due.new.acts.items (became g here dues.Opposed w.in-Opposed.is))

@@ -1,6 +1,5 @@
-use Rattle.std.proofs.Common.{rules, ◌≡◌, ◌≢◌, ◌∙◌, ◌<◌, ◌∷◌, [], ap, sym, refl}
+use Rattle.std.proofs.Common.{rules, ◌≢◌, ◌∙◌, ◌∷◌, [], ap, sym}
 use Rattle.std.proofs.lemmas.Result.{IfOk-weaker}
-use Rattle.dn_record_types.specs.declared.statement.Statement.{Statement}
 use Rattle.dn_records.specs.Records.{kind_byte, statement_bytes}
 use Rattle.dn_server.specs.declared.act.Act.TheVariants as acts
 use Rattle.dn_server.specs.declared.act.SpoilReason.TheVariants as reasons
@@ -37,3 +36,12 @@ returns g c =
     (λ a after told. second_so (live p) j c.args.r said kept a (live c.spoil_twice.new.parts) same c.if-not-parts.false there differs
     (told ∙ (λ i. does (acts.Spoiled c.args.j reasons.Twice (first i) (second i) ∷ []))) (ap live after))
     c.spoil_twice.ensures.after c.spoil_twice.ensures.told
+
+pub keep-requires : goal.keep-requires
+keep-requires g c =
+    let p = c.args.parts.now in
+    let j = c.args.j.0 in
+    let kind_is = c.kind_of.ensures ∙ ap kind_byte c.statement.ensures.value in
+    let same = same_round c.args.r p.run.r c.if-parts-r.false c.if-r-parts.false in
+    let none = sym (ap (λ k. kept_of p.run.kept k j) kind_is) ∙ c.in_default.ensures in
+    (search rules, (same, (c.requires.same, (search rules, (none, c.requires.can same)))))

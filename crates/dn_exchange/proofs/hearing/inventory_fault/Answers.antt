@@ -1,4 +1,4 @@
-use Rattle.std.proofs.Common.{rules, ◌≡◌, ◌∙◌, ℕ, List, Option, length, ap, subst, inr}
+use Rattle.std.proofs.Common.{rules, ◌∙◌, ℕ, List, Option, length, ap, subst, inr}
 use Rattle.std.specs.Prelude.{MatchOption}
 use Rattle.dn_record_types.specs.declared.inventory.Entry.{Entry}
 use Rattle.dn_server.specs.Parts.{live}

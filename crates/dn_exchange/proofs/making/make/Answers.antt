@@ -1,4 +1,4 @@
-use Rattle.std.proofs.Common.{◌≡◌, ◌∙◌, ℕ, List, [], None, false, ap, sym}
+use Rattle.std.proofs.Common.{◌∙◌, ℕ, List, [], None, false}
 use Rattle.dn_cert.specs.Chain.{ChainView}
 use Rattle.dn_seal.specs.Said.{SaidView}
 use Rattle.dn_server.specs.declared.past.Past.{Past}
@@ -6,7 +6,6 @@ use Rattle.dn_server.specs.declared.places.Place.{Place}
 use Rattle.dn_server.specs.declared.run.Run.{Run}
 use Rattle.dn_server.specs.Identity.{IdentityView}
 use Rattle.dn_server.specs.Server.{ServerView}
-use Rattle.dn_server.specs.Parts.{live}
 use Rattle.dn_exchange.specs.Making.{first_run}
 use Rattle.dn_exchange.specs.Opening.{expected_at}
 use Rattle.dn_exchange.proofs.making.make.Goals as goal

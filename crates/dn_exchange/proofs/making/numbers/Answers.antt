@@ -1,4 +1,4 @@
-use Rattle.std.proofs.Common.{◌≡◌, ◌∙◌, length, ap}
+use Rattle.std.proofs.Common.{◌∙◌, ap}
 use Rattle.dn_roster.specs.Roster.{RosterView}
 use Rattle.dn_seal.specs.Dealt.{client, server}
 use Rattle.dn_seal.proofs.ListLemmas.{length-public_keys}

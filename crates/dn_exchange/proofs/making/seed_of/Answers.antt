@@ -1,4 +1,4 @@
-use Rattle.std.proofs.Common.{rules, ◌≡◌, ◌∙◌, ◌+◌, ◌*◌, [], ap, sym}
+use Rattle.std.proofs.Common.{rules, ◌∙◌, ◌+◌, ◌*◌}
 use Rattle.std.proofs.lemmas.Option.{slice_get_within, get_or_from_slice_get}
 use Rattle.dn_exchange.proofs.making.seed_of.Goals as goal
 

@@ -1,4 +1,4 @@
-use Rattle.std.proofs.Common.{◌≡◌, ◌∙◌, ℕ, List, ◌∷◌, [], ◌++◌, ap, sym, map}
+use Rattle.std.proofs.Common.{◌∙◌, ℕ, List, ◌∷◌, [], ◌++◌, ap, sym, map}
 use Rattle.std.proofs.lemmas.List.{map-append}
 use Rattle.dn_bits.specs.Bits.{below}
 use Rattle.dn_bits.proofs.SumLemmas.{below_more}

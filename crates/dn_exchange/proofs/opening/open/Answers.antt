@@ -1,8 +1,8 @@
-use Rattle.std.proofs.Common.{◌≡◌, ◌∙◌, ◌+◌, ◌≤◌, ◌<◌, ℕ, length, ap, refl, sym, arith}
+use Rattle.std.proofs.Common.{◌∙◌, length, ap, arith}
 use Rattle.std.proofs.lemmas.Result.{IfOk-weaker}
 use Rattle.dn_roster.specs.Roster.{RosterView}
 use Rattle.dn_server.specs.declared.run.Run.{Run}
-use Rattle.dn_server.specs.Server.{ServerView, left_of}
+use Rattle.dn_server.specs.Server.{ServerView}
 use Rattle.dn_server.specs.Parts.{live}
 use Rattle.dn_exchange.specs.Opening.{fresh_run, expected_at}
 use Rattle.dn_exchange.specs.Opening.Opens.{opens}
@@ -21,5 +21,5 @@ returns-clause-opens c =
     let with_run : Run → ServerView = λ x. record v { aside = 4; run = x } in
     IfOk-weaker c.does_one.result _ _
     (λ a is. opens prev c.in-Some.layout.now c.requires.new c.requires.idle (omega (arith, c.requires.leaves)) c.latest_below-prev.ensures.latest c.in-Some.ensures.layout is
-        (ap with_run (c.in_ok-parts.ensures.value ∙ (λ i. fresh_run (clients i) (expected i) r prev (c.bits.ensures.bits i)))))
+    (ap with_run (c.in_ok-parts.ensures.value ∙ (λ i. fresh_run (clients i) (expected i) r prev (c.bits.ensures.bits i)))))
     c.does_one.ensures

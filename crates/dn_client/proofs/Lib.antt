@@ -1,0 +1,14 @@
+pub mod Lists
+pub mod PadSums
+pub mod Refusals
+pub mod Blocks
+pub mod Clients
+pub mod Heads
+pub mod Signatures
+pub mod Submissions
+pub mod Challenges
+pub mod Goodness
+pub mod Jams
+pub mod Fresh
+pub mod Envelopes
+pub mod Discipline

@@ -1,0 +1,9 @@
+pub mod KeptLemmas
+pub mod DueLemmas
+pub mod LookLemmas
+pub mod HearLemmas
+pub mod PadLemmas
+pub mod OpenLemmas
+pub mod StayLemmas
+pub mod DisciplineLemmas
+pub mod FitLemmas
