@@ -1,6 +1,6 @@
 -- What a server keeps true of its openings stays true in its calls.
 use Rattle.std.proofs.Common.{◌≡◌, ℕ, Bool, true, List, [], ◌∷◌, ◌++◌, refl, sym, subst, ◌∙◌}
-use Rattle.std.specs.Prelude.{All, length}
+use Rattle.std.specs.Prelude.{Option, All, length}
 use Rattle.std.proofs.Common.{arith}
 use Rattle.std.proofs.lemmas.List.Elements.{All-nil}
 use Rattle.dn_roster.specs.declared.group.GroupSpec.{GroupSpec}
@@ -43,6 +43,10 @@ in_run v run signed aside round same is = record {
   can = moved v (record v { run = run; signed = signed; aside = aside }) refl refl refl refl refl refl is.can;
   sum = λ sum e. subst (λ r. CanSign (itself v) (kinds.Shown r sum.s sum.own)) (sym round) (is.sum sum (sym same ∙ e));
 }
+
+-- a server that is told to change a sum
+pub bent_open : (v : ServerView) (at : Option ℕ) → IsOpen v → IsOpen (record v { bend = at; bent = true })
+bent_open v at is = record { can = moved v (record v { bend = at; bent = true }) refl refl refl refl refl refl is.can; sum = is.sum }
 
 pub ended_open : (v : ServerView) → IsOpen v → IsOpen (ended v)
 ended_open v is = record { can = moved v (ended v) refl refl refl refl refl refl is.can; sum = is.sum }

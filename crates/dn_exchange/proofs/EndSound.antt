@@ -1,9 +1,9 @@
 -- A server whose run has ended stays sound.
-use Rattle.std.proofs.Common.{◌≡◌, true, false, sym, subst, arith}
+use Rattle.std.proofs.Common.{◌≡◌, ℕ, true, false, sym, subst, arith}
 use Rattle.dn_server.specs.declared.answer.Answer.{Answer}
 use Rattle.dn_exchange.specs.Ending.{Abandons}
 use Rattle.dn_exchange.specs.Ending.Abandons.{is_idle, abandons}
-use Rattle.std.specs.Prelude.{List, All}
+use Rattle.std.specs.Prelude.{List, All, Option}
 use Rattle.dn_record_types.specs.declared.body.Body.{Body}
 use Rattle.dn_cert.specs.Certificate.{IsOfRoster}
 use Rattle.dn_server.specs.Server.{ServerView, ended}
@@ -38,3 +38,23 @@ ended_sound v s = ended_on v s v.chain.held s.in_group
 pub abandons_sound : (v : ServerView) (a : Answer) (w : ServerView) → IsSound v → Abandons v a w → IsSound w
 abandons_sound v a w s (is_idle i e f) = subst IsSound (sym f) s
 abandons_sound v a w s (abandons i e f) = subst IsSound (sym f) (ended_sound v s)
+
+-- a server that is told to change a sum
+pub bent_sound : (v : ServerView) (at : Option ℕ) → IsSound v → IsSound (record v { bend = at; bent = true })
+bent_sound v at s = record {
+  seated = record { roster = s.seated.roster; number = s.seated.number; seeds = s.seated.seeds };
+  member = s.member;
+  is_key = s.is_key;
+  workers = s.workers;
+  slots = s.slots;
+  in_group = s.in_group;
+  window = s.window;
+  claims = s.claims;
+  are_claims = s.are_claims;
+  claimed = s.claimed;
+  is_open = s.is_open;
+  round = s.round;
+  aside = λ e. absurd (never e);
+  some_aside = λ b e. absurd (never b);
+  running = s.running;
+}

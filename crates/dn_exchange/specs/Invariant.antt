@@ -158,3 +158,7 @@ pub record IsSound (v : ServerView) : Type 0 where
   pub aside : v.bent ≡ false → v.aside + length v.signed ≤ leaf_count v.key
   pub some_aside : v.bent ≡ false → v.run.window.closed ≡ false → 1 ≤ v.aside
   pub running : v.run.is_running ≡ true → IsRunning (standing_of v)
+
+-- client i has a claim
+abbrev pub HasClaim : Run → ℕ → Type 0
+HasClaim run i = (claim : Claim) × (slice_get run.claims i ≡ Some (Some claim))

@@ -1,5 +1,5 @@
 // The calls of a server.
-ghost use Rattle.std.specs.Prelude.{◌≡◌, ◌≤◌, ◌<◌, ◌+◌, ◌++◌, ◌∷◌, [], not, true, false, length, Some, None, IsErr, IfOk, MatchOption, OnOk, OnErr, Err, option_map, ℕ};
+ghost use Rattle.std.specs.Prelude.{◌≡◌, ◌≤◌, ◌<◌, ◌+◌, ◌++◌, ◌∷◌, [], not, true, false, length, Some, None, IsErr, IfOk, MatchOption, OnOk, OnErr, Err, IsTrue, ◌↔◌, option_map, ℕ};
 ghost use Rattle.dn_seal.specs.Said.{IsUnder};
 ghost use Rattle.dn_seal.specs.Signer.{CanSign};
 ghost use Rattle.dn_cert.specs.Certificate.{IsCertificateUnder};
@@ -11,7 +11,7 @@ ghost use Rattle.dn_exchange.specs.Closing.{Ticks, Shuts};
 ghost use Rattle.dn_exchange.specs.Ending.{Abandons, HoldsOn};
 ghost use Rattle.dn_exchange.specs.Listening.{Hears};
 ghost use Rattle.dn_exchange.specs.Making.{first_server};
-ghost use Rattle.dn_exchange.specs.Invariant.{IsSound};
+ghost use Rattle.dn_exchange.specs.Invariant.{HasClaim};
 
 use crate::closing::{close, tick};
 use crate::ending::{abandon, hold};
@@ -213,5 +213,23 @@ impl ServerCore {
             Some(sum) => Some(&sum.s),
             None => None,
         }
+    }
+
+    /// Whether client `i` has a claim in the round that was opened last.
+    pub fn has(&self, i: ClientId) -> bool
+        ensures { IsTrue result ↔ HasClaim self.now.run i.0 }
+    {
+        match self.parts.run.claims.get(i) {
+            Some(_claim) => true,
+            None => false,
+        }
+    }
+
+    /// Sets the place whose bit the next sum changes, if the round has it; `None` sets none.
+    pub fn bend(&mut self, at: Option<u32>)
+        ensures { self.new ≡ record self.old { bend = at; bent = true } }
+    {
+        self.parts.bend = at;
+        self.parts.bent = true;
     }
 }
