@@ -159,6 +159,23 @@ print(f"65,535 messages in flight: {all_of_many:.3f} s, at most 1; a departure {
 sys.exit(not holds)
 END
 
+# Verdicts: how many times as long one takes on twice as many envelopes, of a round of 512 clients and 16 servers.
+python3 - "$bench" <<'END' || broken=1
+import subprocess, sys
+def seconds(count):
+    done = subprocess.run([sys.argv[1], "verdict", "512", "16", str(count)], capture_output=True, text=True, check=True)
+    if done.stdout != f"{count} heard, 1 blamed, 0 silent\n":
+        sys.exit(f"verdict: {done.stdout}")
+    return float(done.stderr.split()[1])
+rows = [(seconds(65536), seconds(131072)) for _ in range(5)]
+one, two = (min(column) for column in zip(*rows))
+ratio = round(two / one, 2)
+holds = ratio <= 2.3
+print(f"a verdict on 65,536 envelopes: {one:.3f} s; on twice as many {ratio:.2f} times as long, "
+      f"at most 2.3: {'holds' if holds else 'BROKEN'}")
+sys.exit(not holds)
+END
+
 # The greatest plain round: every other client says something, so that the script stays within its limit.
 if [ -d "$top/crates/dissent" ]; then
     dissent=$(built dissent)

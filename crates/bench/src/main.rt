@@ -10,6 +10,7 @@ mod lms;
 mod pads;
 mod records;
 mod text;
+mod verdicts;
 
 use anyhow::{Context, Result, bail};
 use dn_roster::GroupSpec;
@@ -76,6 +77,13 @@ fn measure(rt: &HostRuntime, words: &[String]) -> Result<String> {
         ),
         "deal" => deal::line(alloc, group(words)?),
         "flight" => flight::line(rt, alloc, number(words, 1)?, number(words, 2)?),
+        "verdict" => verdicts::line(
+            rt,
+            alloc,
+            number(words, 1)?,
+            number(words, 2)?,
+            number(words, 3)?,
+        ),
         name => bail!("no measure {name:?}"),
     }
 }

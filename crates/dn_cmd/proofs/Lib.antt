@@ -2,3 +2,4 @@ pub mod WindowLemmas
 pub mod PassLemmas
 pub mod RoundLemmas
 pub mod RunLemmas
+pub mod CheckLemmas

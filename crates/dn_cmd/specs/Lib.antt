@@ -2,3 +2,5 @@ pub mod Window
 pub mod Round
 pub mod Command
 pub mod Run
+pub mod Check
+pub mod Answers

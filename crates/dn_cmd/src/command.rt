@@ -1,13 +1,13 @@
-ghost use Rattle.std.specs.Prelude.{◌≡◌, ◌↔◌, ◌⊎◌, map, string_bytes, Some, None, IfSome};
+ghost use Rattle.std.specs.Prelude.{◌≡◌, ◌↔◌, ◌⊎◌, ℕ, map, string_bytes, Some, None, IfSome};
 ghost use Rattle.dn_io.specs.Faults.{Rose};
 ghost use Rattle.dn_cmd.specs.Command.{command_of};
-ghost use Rattle.dn_io.specs.Task.{Outside, Ends, IsDue};
-ghost use Rattle.dn_cmd.specs.Run.{script_task, refusal_of};
+ghost use Rattle.dn_cmd.specs.Answers.{outside, Answers, IsAnswer};
 
-use crate::text::plain_text;
-use dn_io::{Sink, Source, Status, read_whole, write_whole};
-use dn_script::{ScriptFault, parse_script, plain_script};
-use dn_wire::MAX_SCRIPT_BYTES;
+use crate::checking::check_script;
+use crate::generating::gen_script;
+use crate::running::run;
+use dn_io::{Sink, Source, Status};
+use dn_lines::number;
 use std::alloc::Global;
 use std::sync::Wait;
 use std::thread::Threads;
@@ -17,6 +17,10 @@ use std::thread::Threads;
 pub enum Command {
     /// Run a script, and write what it does.
     Run,
+    /// Read a script, and write how many lines of it count.
+    Check,
+    /// Write the large script of this number.
+    Gen(u64),
 }
 
 /// The command that the words are, if they are one.
@@ -27,59 +31,20 @@ fn read_command(words: &[String]) -> Option<Command>
         [word] => {
             if word.as_str() == "run" {
                 Some(Command::Run)
+            } else if word.as_str() == "check" {
+                Some(Command::Check)
+            } else {
+                None
+            }
+        }
+        [word, text] => {
+            if word.as_str() == "gen" {
+                Some(Command::Gen(number(0, u64::MAX, text.as_bytes())?))
             } else {
                 None
             }
         }
         _ => None,
-    }
-}
-
-/// The status of a script that is not read.
-fn refusal(fault: ScriptFault) -> Status
-    ensures { result ≡ refusal_of fault }
-{
-    match fault {
-        ScriptFault::BadLine { number, cause } => Status::BadLine { number, cause },
-        ScriptFault::NoMemory => Status::NoMemory,
-    }
-}
-
-/// Reads a script whole, and writes its text where it is a plain one.
-fn run<S: Source, K: Sink>(alloc: Global, input: &mut S, output: &mut K) -> Status
-    ensures { let before : Outside = record {
-      left = S.left input.old;
-      held = K.held output.old;
-      read_faults = S.faults input.old;
-      write_faults = K.faults output.old;
-    } in
-        let after : Outside = record {
-          left = S.left input.new;
-          held = K.held output.new;
-          read_faults = S.faults input.new;
-          write_faults = K.faults output.new;
-        } in
-        Ends script_task before after result }
-{
-    let text = match read_whole(alloc, input, MAX_SCRIPT_BYTES) {
-        Ok(text) => text,
-        Err(end) => return Status::from(end),
-    };
-    let script = match parse_script(alloc, &text) {
-        Ok(script) => script,
-        Err(fault) => return refusal(fault),
-    };
-    let plain = match plain_script(alloc, &script) {
-        Ok(Some(plain)) => plain,
-        Ok(None) => return Status::Unbuilt,
-        Err(_) => return Status::NoMemory,
-    };
-    let Ok(due) = plain_text(alloc, &plain) else {
-        return Status::NoMemory;
-    };
-    match write_whole(output, &due) {
-        Ok(()) => Status::Ok,
-        Err(end) => Status::from(end),
     }
 }
 
@@ -96,31 +61,26 @@ pub fn dissent<R: Threads + Wait + Sync, S: Source, K: Sink>(
     ensures usage { (result ≡ Status.Usage) ↔ (command_of (map string_bytes words.now) ≡ None) }
     ensures idle { result ≡ Status.Usage → (input.new ≡ input.old) × (output.new ≡ output.old) }
 
-    // How `run` ended, what it had read then, and what it had written.
-    ensures ends { command_of (map string_bytes words.now) ≡ Some Command.Run →
-        let before : Outside = record {
-          left = S.left input.old;
-          held = K.held output.old;
-          read_faults = S.faults input.old;
-          write_faults = K.faults output.old;
-        } in
-        let after : Outside = record {
-          left = S.left input.new;
-          held = K.held output.new;
-          read_faults = S.faults input.new;
-          write_faults = K.faults output.new;
-        } in
-        Ends script_task before after result }
+    // How the command ended, what it had read then, and what it had written.
+    ensures ends { IfSome (command_of (map string_bytes words.now)) (λ command. Answers command
+        (outside (S.left input.old) (K.held output.old) (S.faults input.old) (K.faults output.old))
+        (outside (S.left input.new) (K.held output.new) (S.faults input.new) (K.faults output.new)) result) }
 
-    // With no fault of the outside `run` ends as its text asks, unless memory is refused.
-    ensures complete { command_of (map string_bytes words.now) ≡ Some Command.Run
-        → (Rose (S.faults input.old) (S.faults input.new) → ⊥)
+    // `gen` reads nothing.
+    ensures unread { (num : ℕ) → command_of (map string_bytes words.now) ≡ Some (Command.Gen num)
+        → input.new ≡ input.old }
+
+    // With no fault of the outside a command ends as its input asks, unless memory is refused.
+    ensures complete { (Rose (S.faults input.old) (S.faults input.new) → ⊥)
         → (Rose (K.faults output.old) (K.faults output.new) → ⊥)
-        → IfSome (S.left input.old) (λ text. IsDue script_task text result ⊎ (result ≡ Status.NoMemory)) }
+        → IfSome (command_of (map string_bytes words.now)) (λ command.
+        IfSome (S.left input.old) (λ text. IsAnswer command text result ⊎ (result ≡ Status.NoMemory))) }
 {
     let _ = rt;
     match read_command(words) {
         Some(Command::Run) => run(alloc, input, output),
+        Some(Command::Check) => check_script(alloc, input, output),
+        Some(Command::Gen(num)) => gen_script(alloc, num, output),
         None => Status::Usage,
     }
 }

@@ -131,7 +131,7 @@ encode_more bytes front out i lt so_far =
 
 -- ---- what reading gives
 
-if_spelled_not : (s bytes : List ℕ) → (s ≡ hex_text bytes → ⊥) → if_spelled s bytes ≡ None
+pub if_spelled_not : (s bytes : List ℕ) → (s ≡ hex_text bytes → ⊥) → if_spelled s bytes ≡ None
 if_spelled_not s bytes never =
     cond-false (bytes_eq s (hex_text bytes)) (Some bytes) None
     (false_from_ne_true (bytes_eq s (hex_text bytes)) (λ same. never ((bytes_eq-Decides s (hex_text bytes)).0 same)))

@@ -3,3 +3,4 @@ pub mod HexLaws
 pub mod FormLaws
 pub mod FieldLaws
 pub mod Loop
+pub mod DigitLaws

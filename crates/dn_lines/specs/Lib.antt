@@ -2,3 +2,4 @@ pub mod Field
 pub mod Form
 pub mod Fields
 pub mod Exact
+pub mod Digits

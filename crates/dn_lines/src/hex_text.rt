@@ -1,34 +1,43 @@
-ghost use Rattle.std.specs.Prelude.{◌≡◌, ◌↔◌, ◌++◌, ◌<◌, IsTrue, OnOk, slice_index};
+ghost use Rattle.std.specs.Prelude.{◌≡◌, ◌↔◌, ◌++◌, ◌*◌, ◌<◌, Ok, IsTrue, OnOk, length};
+ghost use Rattle.std.specs.Bool.{OnTrue};
 ghost use Rattle.std.specs.List.{All};
-ghost use Rattle.hex.specs.Hex.{encode_lower, lower_digits};
+ghost use Rattle.hex.specs.Hex.{encode_lower, decode_of};
 ghost use Rattle.dn_lines.specs.Field.{Gives};
 ghost use Rattle.dn_lines.specs.Fields.{hex_text, bytes_in};
-ghost use Rattle.dn_lines.specs.Fields.{IsLower};
+ghost use Rattle.dn_lines.specs.Digits.{lower_value, IsLowerDigit};
 
 use crate::fault::LineFault;
 use dn_memory::NoMemory;
 use dn_wire::put_u8;
-use hex::FromHexError;
 use std::alloc::Global;
 
-const DIGITS: &[u8; 16] = b"0123456789abcdef";
-
-/// Whether it is none of the letters `A` to `F`.
-fn is_lower_byte(byte: u8) -> bool
-    ensures { IsTrue result ↔ IsLower byte }
+/// The value of a lower-case digit, and 16 of any other character.
+fn lower_value(c: u8) -> u8
+    ensures { result ≡ lower_value c }
 {
-    byte < b'A' || b'F' < byte
+    if b'0' <= c && c <= b'9' {
+        c - b'0'
+    } else if b'a' <= c && c <= b'f' {
+        c - b'a' + 10
+    } else {
+        16
+    }
 }
 
-/// Whether there are no letters `A` to `F`.
-fn is_lower(text: &[u8]) -> bool
-    ensures { IsTrue result ↔ All IsLower text.now }
+/// Writes the byte of each pair of digits. Whether all characters are digits: it looks at all of them, so that no branch hangs on one.
+fn decode_digits(text: &[u8], out: &mut [u8]) -> bool
+    requires { length text.now ≡ 2 * length out.old }
+    ensures digits { IsTrue result ↔ All IsLowerDigit text.now }
+    ensures bytes { OnTrue result (decode_of text.now ≡ Ok out.new) }
 {
-    let mut lower = true;
-    for b in text {
-        lower &= is_lower_byte(*b);
+    let mut greatest = 0u8;
+    'pairs: for i in 0..out.len() {
+        let high = lower_value(text[2 * i]);
+        let low = lower_value(text[2 * i + 1]);
+        greatest = greatest.max(high).max(low);
+        out[i] = high % 16 * 16 + low % 16;
     }
-    lower
+    greatest < 16
 }
 
 /// The bytes that a text spells: two lower-case hex digits each, and `-` for none.
@@ -39,22 +48,15 @@ pub fn bytes(alloc: Global, text: &[u8]) -> Result<Vec<u8>, LineFault>
     if text == b"-".as_slice() {
         return Ok(Vec::new(alloc));
     }
-    if text.is_empty() || !is_lower(text) {
+    if text.is_empty() || text.len() % 2 != 0 {
         return Err(LineFault::Grammar);
     }
-    match hex::decode(alloc, text) {
-        Ok(bytes) => Ok(bytes),
-        Err(FromHexError::OutOfMemory) => Err(LineFault::NoMemory),
-        Err(_) => Err(LineFault::Grammar),
+    let mut bytes = vec![in alloc; 0u8; text.len() / 2].map_err(NoMemory::from)?;
+    if decode_digits(text, bytes.as_mut_slice()) {
+        Ok(bytes)
+    } else {
+        Err(LineFault::Grammar)
     }
-}
-
-/// A digit.
-fn digit(value: u8) -> u8
-    requires { value < 16 }
-    ensures { result ≡ slice_index lower_digits value }
-{
-    DIGITS[value as usize]
 }
 
 /// Appends bytes in lower-case hex, and `-` for none.
@@ -67,13 +69,15 @@ pub fn put_hex(out: &mut Vec<u8>, bytes: &[u8]) -> Result<(), NoMemory>
     put_digits(out, bytes)
 }
 
+/// Appends two digits for each byte, with room for a byte behind them.
 fn put_digits(out: &mut Vec<u8>, bytes: &[u8]) -> Result<(), NoMemory>
     ensures { OnOk result (out.new.items ≡ out.old.items ++ encode_lower bytes.now) }
 {
-    out.reserve(bytes.len().saturating_mul(2))?;
-    for b in bytes {
-        out.push(digit(*b / 16))?;
-        out.push(digit(*b % 16))?;
-    }
-    Ok(())
+    let start = out.len();
+    let count = bytes.len().checked_mul(2).ok_or(NoMemory)?;
+    let end = start.checked_add(count).ok_or(NoMemory)?;
+    out.reserve(count.saturating_add(1))?;
+    out.resize(end, 0)?;
+    let digits = &mut out.as_mut_slice()[start..];
+    hex::encode_to_slice(bytes, digits).map_err(|_| NoMemory)
 }

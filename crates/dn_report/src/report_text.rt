@@ -19,6 +19,11 @@ pub fn print_line(line: &ReportLine, out: &mut Vec<u8>) -> Result<(), NoMemory>
     let mut text = Vec::new(*out.allocator());
     put_line(&mut text, line)?;
     put_u8(&mut text, b'\n')?;
+    if out.is_empty() {
+        // Nothing stands before it, so that it need not be copied.
+        *out = text;
+        return Ok(());
+    }
     put_bytes(out, &text)
 }
 

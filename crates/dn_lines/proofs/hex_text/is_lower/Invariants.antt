@@ -1,8 +1,0 @@
-use Rattle.std.proofs.Common.{take}
-use Rattle.std.specs.Prelude.{IsTrue, ◌↔◌}
-use Rattle.std.specs.List.{All}
-use Rattle.dn_lines.specs.Fields.{IsLower}
-use Rattle.dn_lines.proofs.hex_text.is_lower.Given as goal
-
-abbrev pub invariant-loop-b : goal.invariant-loop-b
-invariant-loop-b l = IsTrue l.lower ↔ All IsLower (take l.b-index l.text)

@@ -1,0 +1,9 @@
+pub mod Lengths
+pub mod StepLemmas
+pub mod SignLemmas
+pub mod ClaimLemmas
+pub mod SumLemmas
+pub mod CommitLemmas
+pub mod ThinLemmas
+pub mod CertifyLemmas
+pub mod LoopLemmas

@@ -1,0 +1,4 @@
+pub mod Going
+pub mod Spoken
+pub mod Sound
+pub mod Certifying

@@ -1,0 +1,5 @@
+pub mod FindLemmas
+pub mod KeptLemmas
+pub mod MemberLemmas
+pub mod Shapes
+pub mod SaidLemmas

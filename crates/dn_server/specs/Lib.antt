@@ -1,0 +1,6 @@
+pub mod Justified
+pub mod Identity
+pub mod Server
+pub mod Keeping
+pub mod Answers
+pub mod Parts
