@@ -1,0 +1,43 @@
+ghost use Rattle.std.specs.Prelude.{◌≡◌};
+
+use dn_lines::{LineFault, split};
+use dn_memory::NoMemory;
+use dn_report::{Outcome, ReportLine, read_line};
+use std::alloc::Global;
+
+/// The lines of a text up to the first that is no line of a report.
+#[derive(Drop)]
+pub struct ReportLines {
+    pub lines: Vec<ReportLine>,
+    /// Whether the whole text is such lines.
+    pub whole: bool,
+}
+
+/// The lines of a text up to the first that is no line of a report.
+pub fn read_lines(alloc: Global, text: &[u8]) -> Result<ReportLines, NoMemory> {
+    let mut lines = Vec::new(alloc);
+    let mut rest = text;
+    while let Some((line, after)) = split(b'\n', rest) {
+        match read_line(alloc, &rest[..line.len() + 1]) {
+            Ok(line) => lines.push(line)?,
+            Err(LineFault::Grammar) => {
+                return Ok(ReportLines {
+                    lines,
+                    whole: false,
+                });
+            }
+            Err(LineFault::NoMemory) => return Err(NoMemory),
+        }
+        rest = after;
+    }
+    let whole = rest.is_empty();
+    Ok(ReportLines { lines, whole })
+}
+
+/// The outcome that stands at a place, if one stands there.
+pub fn outcome_at(lines: &[ReportLine], at: usize) -> Option<&Outcome> {
+    match lines.get(at) {
+        Some(ReportLine::Outcome(outcome)) => Some(outcome),
+        _ => None,
+    }
+}
