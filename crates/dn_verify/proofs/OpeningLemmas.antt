@@ -1,5 +1,4 @@
 -- What opened under a roster was signed by its keys.
-use Rattle.std.proofs.Common.{ℕ, List, ◌≡◌}
 use Rattle.dn_roster.specs.Roster.{RosterView}
 use Rattle.dn_record_types.specs.declared.payload.Payload.{Payload}
 use Rattle.dn_record_types.specs.declared.payload.Payload.TheVariants as payloads

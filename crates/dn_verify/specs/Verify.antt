@@ -1,8 +1,10 @@
--- What `verify` makes of its input, as far as it is said so far: the form of its answers.
-use Rattle.std.specs.Prelude.{◌≡◌, ℕ, ◌+◌, ◌^◌, ◌-◌, ◌≤◌, min, List, ◌++◌, codes}
+-- What `verify` makes of its input, as far as it is said so far: what is accepted is lines of a report, and the form of the answers.
+use Rattle.std.specs.Prelude.{◌≡◌, ℕ, ◌+◌, ◌≤◌, min, List, ◌++◌, All, codes}
 use Rattle.std.specs.Fmt.{decimal}
+use Rattle.std.specs.List.{flat_map}
+use Rattle.dn_report.specs.declared.line.ReportLine.{ReportLine}
+use Rattle.dn_report.specs.Lines.{IsLine, line_text}
 use Rattle.dn_wire.specs.declared.limits.TheConstants.{MAX_REPORT_BYTES}
-use Rattle.dn_io.specs.declared.rule.Rule.{Rule}
 use Rattle.dn_io.specs.declared.rule.Rule.TheVariants.{V}
 use Rattle.dn_io.specs.declared.status.Status.{Status}
 use Rattle.dn_io.specs.declared.status.Status.TheVariants as status
@@ -20,9 +22,15 @@ NamesARule text s = ⊥
 abbrev pub accepted_text : ℕ → ℕ → List ℕ
 accepted_text rounds verdicts = codes "accepted " ++ decimal rounds ++ codes " rounds " ++ decimal verdicts ++ codes " verdicts\n"
 
--- some counts are told
+-- the text is the spelling of lines of a report, each with its line feed
+pub record IsReportText (text : List ℕ) : Type 0 where
+  pub lines : List ReportLine
+  pub fit : All IsLine lines
+  pub spelled : text ≡ flat_map line_text lines
+
+-- the text is that of a report, and some counts are told of it
 abbrev pub TellsCounts : List ℕ → List ℕ → Type 0
-TellsCounts text due = (rounds : ℕ) × (verdicts : ℕ) × (due ≡ accepted_text rounds verdicts)
+TellsCounts text due = IsReportText text × (rounds : ℕ) × (verdicts : ℕ) × (due ≡ accepted_text rounds verdicts)
 
 abbrev pub verify_task : Task
 verify_task = record { limit = MAX_REPORT_BYTES; Refuses = NamesARule; Due = TellsCounts }

@@ -3,6 +3,7 @@
 ghost use Rattle.std.specs.Prelude.{◌≡◌, ◌<◌, ◌≤◌, All, OnOk, IfOk, length, vec_len};
 ghost use Rattle.dn_seal.specs.Said.{IsUnder};
 ghost use Rattle.dn_verify.specs.Under.{IsContentUnder};
+ghost use Rattle.dn_verify.specs.Verify.{IsReportText};
 
 use crate::content::Content;
 use crate::events::event;
@@ -166,7 +167,9 @@ fn steps(
 }
 
 /// The counts of a report that is accepted.
-pub fn judged(alloc: Global, text: &[u8]) -> Result<Counts, Stop> {
+pub fn judged(alloc: Global, text: &[u8]) -> Result<Counts, Stop>
+    ensures { IfOk result (λ _. IsReportText text.now) }
+{
     let report = read_lines(alloc, text)?;
     let header = read_header(alloc, &report.lines)?;
     let contents = contents(alloc, &header.roster, &report.lines)?;

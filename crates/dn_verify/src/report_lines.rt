@@ -1,4 +1,6 @@
-ghost use Rattle.std.specs.Prelude.{◌≡◌};
+ghost use Rattle.std.specs.Prelude.{◌≡◌, All, IfOk, IsTrue};
+ghost use Rattle.std.specs.List.{flat_map};
+ghost use Rattle.dn_report.specs.Lines.{IsLine, line_text};
 
 use dn_lines::{LineFault, split};
 use dn_memory::NoMemory;
@@ -14,7 +16,10 @@ pub struct ReportLines {
 }
 
 /// The lines of a text up to the first that is no line of a report.
-pub fn read_lines(alloc: Global, text: &[u8]) -> Result<ReportLines, NoMemory> {
+pub fn read_lines(alloc: Global, text: &[u8]) -> Result<ReportLines, NoMemory>
+    ensures fit { IfOk result (λ r. All IsLine r.lines.items) }
+    ensures spelled { IfOk result (λ r. IsTrue r.whole → text.now ≡ flat_map line_text r.lines.items) }
+{
     let mut lines = Vec::new(alloc);
     let mut rest = text;
     while let Some((line, after)) = split(b'\n', rest) {
