@@ -1,0 +1,16 @@
+//! One server of a group: the rounds that it opens, the submissions that it takes, the statements of the other servers that it hears,
+//! and what it says to them.
+//!
+//! Contracts see a server as a `ServerView`. `specs/` has a relation for each call, which gives the answer and the server after it.
+#![tactic(auto)]
+
+mod closing;
+mod ending;
+mod hearing;
+mod listening;
+mod making;
+mod opening;
+mod server_core;
+mod submitting;
+
+pub use server_core::ServerCore;
