@@ -176,6 +176,27 @@ print(f"a verdict on 65,536 envelopes: {one:.3f} s; on twice as many {ratio:.2f}
 sys.exit(not holds)
 END
 
+# A server's sum: how many times as long four workers take as one, where there are four processors.
+python3 - "$bench" <<'END' || broken=1
+import os, subprocess, sys
+def run(workers):
+    done = subprocess.run([sys.argv[1], "sum", "512", "65536", str(workers), "20"], capture_output=True, text=True, check=True)
+    return done.stdout, float(done.stderr.split()[1])
+if (os.cpu_count() or 1) < 4:
+    print("a sum by four workers: skipped, fewer than four processors")
+    sys.exit(0)
+rows = [(run(1), run(4)) for _ in range(3)]
+if len({text for row in rows for text, _ in row}) != 1:
+    sys.exit("a sum by four workers: another sum than by one")
+one = min(row[0][1] for row in rows)
+four = min(row[1][1] for row in rows)
+ratio = round(four / one, 2)
+holds = ratio <= 0.4
+print(f"a sum of 512 pads of 65,536 bits: {one:.6f} s by one worker, {ratio:.2f} times as long by four, "
+      f"at most 0.4: {'holds' if holds else 'BROKEN'}")
+sys.exit(not holds)
+END
+
 # The greatest plain round: every other client says something, so that the script stays within its limit.
 if [ -d "$top/crates/dissent" ]; then
     dissent=$(built dissent)

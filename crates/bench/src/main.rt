@@ -9,13 +9,17 @@ mod flight;
 mod lms;
 mod pads;
 mod records;
+mod sums;
 mod text;
 mod verdicts;
 
 use anyhow::{Context, Result, bail};
 use dn_roster::GroupSpec;
+use std::alloc::Global;
 use std::env;
+use std::rt::Clock;
 use std::str::FromStr;
+use std::thread::Threads;
 
 /// The number that stands at a place among the words.
 fn number<T: FromStr>(words: &[String], place: usize) -> Result<T>
@@ -45,8 +49,11 @@ fn group(words: &[String]) -> Result<GroupSpec> {
 }
 
 /// The lines of the measure that the words ask for.
-fn measure(rt: &HostRuntime, words: &[String]) -> Result<String> {
-    let alloc = rt.alloc();
+fn measure(
+    rt: &(impl Threads + Clock + Eprint + Sync),
+    alloc: Global,
+    words: &[String],
+) -> Result<String> {
     let name = words.first().context("no measure")?;
     match name.as_str() {
         "pads" => pads::line(
@@ -77,6 +84,14 @@ fn measure(rt: &HostRuntime, words: &[String]) -> Result<String> {
         ),
         "deal" => deal::line(alloc, group(words)?),
         "flight" => flight::line(rt, alloc, number(words, 1)?, number(words, 2)?),
+        "sum" => sums::line(
+            rt,
+            alloc,
+            number(words, 1)?,
+            number(words, 2)?,
+            number(words, 3)?,
+            number(words, 4)?,
+        ),
         "verdict" => verdicts::line(
             rt,
             alloc,
@@ -93,7 +108,7 @@ fn main(rt: HostRuntime) -> Result<()> {
     for word in env::args(&rt)?.skip(1) {
         words.push(word)?;
     }
-    let line = measure(&rt, &words)?;
+    let line = measure(&rt, rt.alloc(), &words)?;
     println!(rt; "{line}")?;
     Ok(())
 }

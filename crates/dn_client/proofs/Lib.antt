@@ -1,4 +1,5 @@
 pub mod Lists
+pub mod Listing
 pub mod PadSums
 pub mod Refusals
 pub mod Blocks

@@ -1,5 +1,6 @@
 -- What `hold` does, and when it refuses.
-use Rattle.std.specs.Prelude.{◌≡◌, ◌<◌, ◌≤◌, ◌+◌, ◌⊎◌, ℕ, Bool, true, false, List, length, Contains, Some}
+use Rattle.std.specs.Prelude.{◌≡◌, ◌<◌, ◌≤◌, ◌+◌, ◌⊎◌, ℕ, Bool, true, false, List, map, length, Contains, Some}
+use Rattle.std.specs.List.Sorted.{IsStrictlyIncreasing}
 use Rattle.dn_wire.specs.declared.ids.ClientId.{ClientId}
 use Rattle.dn_bits.specs.Bits.{bit}
 use Rattle.dn_record_types.specs.declared.body.Body.{Body}
@@ -12,6 +13,10 @@ use Rattle.dn_client.specs.declared.made.Made.{Made}
 use Rattle.dn_client.specs.declared.holding.HoldFault.{HoldFault}
 use Rattle.dn_client.specs.declared.holding.HoldFault.TheVariants as refusals
 use Rattle.dn_client.specs.Client.{ClientView}
+
+-- the rows ascend by their clients
+abbrev pub Ascends : List Listed → Type 0
+Ascends rows = IsStrictlyIncreasing (map (λ l. l.client.0) rows)
 
 -- the body lists the client with this digest
 abbrev pub Lists : Body → ClientId → List ℕ → Type 0

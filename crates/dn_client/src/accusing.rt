@@ -4,6 +4,7 @@ ghost use Rattle.dn_seal.specs.Signer.{CanSign};
 ghost use Rattle.dn_client.specs.declared.accusing.AccuseFault.TheVariants as refusals;
 ghost use Rattle.dn_client.specs.declared.made.Made.{Made};
 ghost use Rattle.dn_client.specs.Client.{IsClient, IsSpent};
+ghost use Rattle.dn_client.specs.Holding.{Ascends};
 ghost use Rattle.dn_client.specs.Accusing.{Accuses, HasAccused, IsUnaccused, IsJammed, IsFirstJammed, IsAccusedNow, IsFirstDiffering, IsListedMade, IsNotMadeNow, IsRangeIn, IsWithin, text_bit};
 
 use crate::accused::{Accused, find as find_accused};
@@ -115,6 +116,7 @@ impl Client {
 
     /// The client's plain text of a body's round, where the body lists what the client made.
     fn own_text(&self, body: &Body) -> Option<&Bits>
+        requires { Ascends body.now.listed }
         ensures some { IfSome result (λ text. (m : Made) × IsListedMade self.now body.now m × (text.now ≡ m.plain)) }
         ensures none { IfNone result ((m : Made) → ¬ IsListedMade self.now body.now m) }
     {

@@ -9,12 +9,14 @@ ghost use Rattle.dn_cert.specs.Chain.{IsLayoutAfter};
 ghost use Rattle.dn_layout.specs.Layout.{bits_of};
 ghost use Rattle.dn_client.specs.declared.answering.AnswerFault.TheVariants as refusals;
 ghost use Rattle.dn_client.specs.Client.{IsClient, IsIn, IsSpent};
+ghost use Rattle.dn_client.specs.Holding.{Ascends};
 ghost use Rattle.dn_client.specs.Answering.{AreOpenings, Names, IsOpened, IsOwnBit, IsUnanswered, IsChallengedBy, IsRebutted, IsGoodRebuttal};
 
 use crate::answered::{Answered, is_among};
 use crate::client::Client;
 use crate::made::find;
 use crate::openings::{are_openings, first_false, shown_sum};
+use crate::rows::row_of;
 use dn_layout::Layout;
 use dn_memory::NoMemory;
 use dn_pads::Seed;
@@ -69,9 +71,10 @@ impl From<AllocError> for AnswerFault {
 
 /// Whether the body has a row of this client.
 fn names(body: &Body, client: ClientId) -> bool
+    requires { Ascends body.now.listed }
     ensures { IsTrue result ↔ Names body.now client }
 {
-    body.listed.get().iter().any(|l| l.client == client)
+    row_of(body.listed.get(), client).is_some()
 }
 
 /// The rebuttal against a server, with the seed that the client shares with it and the envelope of what it said.

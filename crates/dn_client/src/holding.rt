@@ -4,10 +4,11 @@ ghost use Rattle.dn_bits.specs.Bits.{bit};
 ghost use Rattle.dn_cert.specs.Chain.{CanFollow, IsChain, with_held};
 ghost use Rattle.dn_client.specs.declared.holding.HoldFault.TheVariants as refusals;
 ghost use Rattle.dn_client.specs.Client.{IsClient};
-ghost use Rattle.dn_client.specs.Holding.{BringsOut, HasBlock, IsBroughtOut, IsHeld, IsNextHead, IsNotHeld, IsRefusedBy, Lists};
+ghost use Rattle.dn_client.specs.Holding.{Ascends, BringsOut, HasBlock, IsBroughtOut, IsHeld, IsNextHead, IsNotHeld, IsRefusedBy, Lists};
 
 use crate::client::Client;
 use crate::made::{Made, find};
+use crate::rows::row_of;
 use dn_bits::Bits;
 use dn_cert::{Certificate, Chain, HoldFault as ChainFault};
 use dn_memory::NoMemory;
@@ -61,12 +62,13 @@ impl From<ChainFault> for HoldFault {
 
 /// Whether the body lists the client with this digest.
 pub fn lists(body: &Body, client: ClientId, digest: &[u8; 32]) -> bool
+    requires { Ascends body.now.listed }
     ensures { IsTrue result ↔ Lists body.now client digest.now }
 {
-    body.listed
-        .get()
-        .iter()
-        .any(|l| l.client == client && l.digest == *digest)
+    match row_of(body.listed.get(), client) {
+        Some(row) => row.digest == *digest,
+        None => false,
+    }
 }
 
 /// Whether an output has the same bits as a plain text from place `first` to below place `past`.
@@ -96,6 +98,7 @@ fn has_block(made: &Made, out: &Bits) -> bool
 
 /// Whether a body brings out the text at this place of the queue, which what was made carries.
 fn is_brought_out(made: &Made, place: usize, client: ClientId, body: &Body) -> bool
+    requires { Ascends body.now.listed }
     ensures { IsTrue result ↔ IsBroughtOut made.now place client body.now }
 {
     made.carried == Some(place) && lists(body, client, &made.digest) && has_block(made, &body.out)
@@ -121,6 +124,7 @@ fn take(alloc: Global, chain: &mut Chain, c: &Certificate) -> Result<(), HoldFau
 impl Client {
     /// Whether the body brings out the text at the head of the queue.
     fn brings_out(&self, body: &Body) -> bool
+        requires { Ascends body.now.listed }
         ensures { IsTrue result ↔ BringsOut self.now body.now }
     {
         match find(&self.made, body.r) {
@@ -131,6 +135,7 @@ impl Client {
 
     /// The head of the queue when the body is held.
     fn next_head(&self, body: &Body) -> usize
+        requires { Ascends body.now.listed }
         ensures next { IsNextHead self.now body.now result }
         ensures within { result ≤ length self.now.queue }
     {

@@ -16,6 +16,7 @@ mod made;
 mod openings;
 mod plain_text;
 mod readers;
+mod rows;
 mod signing;
 mod submitting;
 

@@ -5,8 +5,9 @@ use Rattle.dn_io.specs.declared.status.Status.{Status}
 use Rattle.dn_io.specs.declared.status.Status.TheVariants as status
 use Rattle.dn_io.specs.Task.{Outside, Ends, EndsUnread, IsDue}
 use Rattle.dn_gen.specs.Generated.{generated}
+use Rattle.dn_verify.specs.Verify.{verify_task}
 use Rattle.dn_cmd.specs.declared.command.Command.{Command}
-use Rattle.dn_cmd.specs.declared.command.Command.TheVariants.{Run, Check, Gen}
+use Rattle.dn_cmd.specs.declared.command.Command.TheVariants.{Run, Verify, Check, Gen}
 use Rattle.dn_cmd.specs.Run.{script_task}
 use Rattle.dn_cmd.specs.Check.{check_task}
 
@@ -18,11 +19,13 @@ outside left held read_faults write_faults =
 -- how the command ended with this status: what it had read then, and what it had written
 abbrev pub Answers : Command → Outside → Outside → Status → Type 0
 Answers Run before after s = Ends script_task before after s
+Answers Verify before after s = Ends verify_task before after s
 Answers Check before after s = Ends check_task before after s
 Answers (Gen num) before after s = EndsUnread (generated num) before.held after.held before.write_faults after.write_faults s
 
 -- the status of the command on this input, where neither memory nor the outside fails
 abbrev pub IsAnswer : Command → List ℕ → Status → Type 0
 IsAnswer Run text s = IsDue script_task text s
+IsAnswer Verify text s = IsDue verify_task text s
 IsAnswer Check text s = IsDue check_task text s
 IsAnswer (Gen num) text s = s ≡ status.Ok

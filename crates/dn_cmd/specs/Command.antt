@@ -4,11 +4,14 @@ use Rattle.std.specs.Str.{bytes_eq}
 use Rattle.dn_lines.specs.Field.{made}
 use Rattle.dn_lines.specs.Fields.{long_number}
 use Rattle.dn_cmd.specs.declared.command.Command.{Command}
-use Rattle.dn_cmd.specs.declared.command.Command.TheVariants.{Run, Check, Gen}
+use Rattle.dn_cmd.specs.declared.command.Command.TheVariants.{Run, Verify, Check, Gen}
 
 -- the command that these words are, if they are one; a number is at most 2^64 - 1, in decimal digits with no zero in front of others
 abbrev pub command_of : List (List ℕ) → Option Command
 command_of [] = None
-command_of (word ∷ []) = if bytes_eq word (codes "run") then Some Run else (if bytes_eq word (codes "check") then Some Check else None)
+command_of (word ∷ []) =
+    if bytes_eq word (codes "run") then Some Run
+    else (if bytes_eq word (codes "verify") then Some Verify
+    else (if bytes_eq word (codes "check") then Some Check else None))
 command_of (word ∷ number ∷ []) = if bytes_eq word (codes "gen") then made Gen (long_number.read number) else None
 command_of (word ∷ next ∷ other ∷ words) = None

@@ -8,6 +8,7 @@ use crate::generating::gen_script;
 use crate::running::run;
 use dn_io::{Sink, Source, Status};
 use dn_lines::number;
+use dn_verify::verify_report;
 use std::alloc::Global;
 use std::sync::Wait;
 use std::thread::Threads;
@@ -17,6 +18,8 @@ use std::thread::Threads;
 pub enum Command {
     /// Run a script, and write what it does.
     Run,
+    /// Judge a report, and write what it tells, where it is accepted.
+    Verify,
     /// Read a script, and write how many lines of it count.
     Check,
     /// Write the large script of this number.
@@ -31,6 +34,8 @@ fn read_command(words: &[String]) -> Option<Command>
         [word] => {
             if word.as_str() == "run" {
                 Some(Command::Run)
+            } else if word.as_str() == "verify" {
+                Some(Command::Verify)
             } else if word.as_str() == "check" {
                 Some(Command::Check)
             } else {
@@ -79,6 +84,7 @@ pub fn dissent<R: Threads + Wait + Sync, S: Source, K: Sink>(
     let _ = rt;
     match read_command(words) {
         Some(Command::Run) => run(alloc, input, output),
+        Some(Command::Verify) => verify_report(alloc, input, output),
         Some(Command::Check) => check_script(alloc, input, output),
         Some(Command::Gen(num)) => gen_script(alloc, num, output),
         None => Status::Usage,

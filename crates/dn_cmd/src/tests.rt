@@ -195,7 +195,7 @@ fn other_words_are_refused(rt: HostRuntime) -> Result<(), Fail> {
         dissent(
             &rt,
             alloc,
-            &words(alloc, "verify")?,
+            &words(alloc, "demo")?,
             &mut input,
             &mut output
         ),

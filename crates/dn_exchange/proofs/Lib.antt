@@ -17,3 +17,4 @@ pub mod ListSound
 pub mod CloseSound
 pub mod CallsSound
 pub mod Listens
+pub mod SeatStays

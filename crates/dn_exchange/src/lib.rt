@@ -7,10 +7,12 @@
 mod closing;
 mod ending;
 mod hearing;
+mod laws;
 mod listening;
 mod making;
 mod opening;
 mod server_core;
 mod submitting;
 
+pub use laws::seats_stay;
 pub use server_core::ServerCore;

@@ -1,8 +1,12 @@
 use Rattle.std.proofs.Common.{◌≡◌, sym, ap, subst, ◌∙◌, refl, true, false}
 use Rattle.dn_client.specs.Client.{ClientView, IsClient}
 use Rattle.dn_client.specs.Accusing.{IsWithin, HasBits, text_bit}
+use Rattle.dn_client.proofs.Listing.{ascends_of}
 use Rattle.dn_client.proofs.Jams.{IsBodyAt, elsewhere, has_bits, own_text_is, spared}
 use Rattle.dn_client.proofs.client.Client.denial.Goals as goal
+
+pub own_text-requires : goal.own_text-requires
+own_text-requires c = ascends_of c.self.inside.chain c.in-Some.body.now c.self.invariant.client.chain c.in-Some.ensures.body.0
 
 pub returns-then-not-is_within : goal.returns-then-not-is_within
 returns-then-not-is_within c =

@@ -4,8 +4,12 @@ use Rattle.dn_client.specs.declared.answering.AnswerFault.TheVariants as refusal
 use Rattle.dn_client.specs.Client.{ClientView}
 use Rattle.dn_client.specs.Inside.{view_of}
 use Rattle.dn_client.specs.Answering.{HasAnswered, IsOwnBit, IsUnanswered, IsChallenged, IsChallengedBy, IsFirstFalse, ShowsTrue, shown_sum}
+use Rattle.dn_client.proofs.Listing.{ascends_of}
 use Rattle.dn_client.proofs.Challenges.{Tells, asked, misshapen, beq_same, beq_differs}
 use Rattle.dn_client.proofs.client.Client.false_server.Goals as goal
+
+pub names-requires : goal.names-requires
+names-requires c = ascends_of c.self.inside.chain c.in-Some.body.now c.self.invariant.client.chain c.in-Some.ensures.body.0
 
 pub returns-then-not-is_opened-clause-refused : goal.returns-then-not-is_opened-clause-refused
 returns-then-not-is_opened-clause-refused c =

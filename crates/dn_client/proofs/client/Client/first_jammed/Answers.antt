@@ -3,8 +3,12 @@ use Rattle.std.specs.Prelude.{MatchOption}
 use Rattle.dn_client.specs.Client.{ClientView, IsClient}
 use Rattle.dn_client.specs.Accusing.{IsRangeIn, IsJammed, IsFirstJammed}
 use Rattle.dn_client.specs.Inside.{view_of}
+use Rattle.dn_client.proofs.Listing.{ascends_of}
 use Rattle.dn_client.proofs.Jams.{IsBodyAt, jams_nowhere, first_jam, own_text_is}
 use Rattle.dn_client.proofs.client.Client.first_jammed.Goals as goal
+
+pub own_text-requires : goal.own_text-requires
+own_text-requires c = ascends_of c.self.inside.chain c.in_ok-body.body.now c.self.invariant.client.chain c.in_ok-body.ensures.body.0
 
 pub returns-in_err-first-clause-jammed : goal.returns-in_err-first-clause-jammed
 returns-in_err-first-clause-jammed c =

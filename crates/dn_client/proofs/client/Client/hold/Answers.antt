@@ -1,11 +1,16 @@
 use Rattle.std.proofs.Common.{◌≤◌, sym, subst, length}
+use Rattle.dn_record_types.specs.declared.body.Body.{Body}
 use Rattle.dn_cert.specs.Chain.{IsChain, with_held}
 use Rattle.dn_client.specs.Client.{ClientView}
-use Rattle.dn_client.specs.Holding.{IsNextHead, IsHeld, IsNotHeld}
+use Rattle.dn_client.specs.Holding.{Ascends, IsNextHead, IsHeld, IsNotHeld}
 use Rattle.dn_client.specs.Inside.{view_of}
 use Rattle.dn_client.proofs.Clients.{keeps_of, holds}
 use Rattle.dn_client.proofs.Refusals.{not_held}
+use Rattle.dn_client.proofs.Listing.{ascends_in}
 use Rattle.dn_client.proofs.client.Client.hold.Goals as goal
+
+pub next_head-head-requires : goal.next_head-head-requires
+next_head-head-requires c = subst (λ (b : Body). Ascends b.listed) (sym c.body.ensures.value) (ascends_in c.args.c.now c.body.ensures.certificate)
 
 pub invariant_of-self : goal.invariant_of-self
 invariant_of-self c =
