@@ -7,7 +7,6 @@ use dn_server::{Act, Answer, Reason};
 use dn_wire::{Round, ServerId};
 use played_rounds::group;
 use std::alloc::Global;
-use std::process::Abort;
 use std::test::Fail;
 use std::thread::Threads;
 
@@ -18,30 +17,34 @@ fn alone(alloc: Global) -> Result<ServerCore, Fail> {
     Ok(ServerCore::make(alloc, &dealt, ServerId(0), 2)?)
 }
 
-/// Asserts that an answer has these words.
-fn expect(
-    rt: &impl Abort,
-    alloc: Global,
-    answer: &Answer,
-    expected: &[Word],
-) -> Result<(), Fail> {
-    assert_eq!(rt; words(alloc, answer)?.as_slice(), expected);
-    Ok(())
+/// What a server answers that is to open a round.
+fn opens(alloc: Global, core: &mut ServerCore, r: u64) -> Result<Vec<Word>, Fail> {
+    let answer = core.open_round(Round(r))?;
+    Ok(words(alloc, &answer)?)
 }
 
-/// How many bits the first certificate of an answer gives, how many of them are 1, and how many clients it lists.
-fn outcome(answer: &Answer) -> (u32, u32, usize) {
-    let Answer::Acts(acts) = answer else {
-        return (0, 0, 0);
-    };
-    for act in acts.get() {
-        if let Act::Certified(certificate) = act {
-            let body = certificate.body();
-            let ones = ones_in(&body.out);
-            return (body.out.len(), ones, body.listed.get().len());
-        }
-    }
-    (0, 0, 0)
+/// What it answers that is to abandon its round.
+fn abandons(alloc: Global, core: &mut ServerCore) -> Result<Vec<Word>, Fail> {
+    let answer = core.abandon()?;
+    Ok(words(alloc, &answer)?)
+}
+
+/// What it answers to a tick.
+fn ticks<R: Threads + Sync>(
+    rt: &R,
+    alloc: Global,
+    core: &mut ServerCore,
+) -> Result<Vec<Word>, Fail> {
+    let answer = core.tick(rt)?;
+    Ok(words(alloc, &answer)?)
+}
+
+/// How many bits the body of a certificate gives, how many of them are 1, and how many clients it lists.
+#[derive(Clone, Copy, Debug, PartialEq, Eq)]
+struct Outcome {
+    bits: u32,
+    ones: u32,
+    listed: usize,
 }
 
 fn ones_in(out: &Bits) -> u32 {
@@ -54,49 +57,88 @@ fn ones_in(out: &Bits) -> u32 {
     ones
 }
 
+/// The outcome of the first certificate of an answer.
+fn outcome_of(answer: &Answer) -> Option<Outcome> {
+    let Answer::Acts(acts) = answer else {
+        return None;
+    };
+    for act in acts.get() {
+        if let Act::Certified(certificate) = act {
+            let body = certificate.body();
+            return Some(Outcome {
+                bits: body.out.len(),
+                ones: ones_in(&body.out),
+                listed: body.listed.get().len(),
+            });
+        }
+    }
+    None
+}
+
+/// What it answers that is to close its window, and the outcome of the round, if it is certified.
+fn closes<R: Threads + Sync>(
+    rt: &R,
+    alloc: Global,
+    core: &mut ServerCore,
+) -> Result<(Vec<Word>, Option<Outcome>), Fail> {
+    let answer = core.close(rt)?;
+    Ok((words(alloc, &answer)?, outcome_of(&answer)))
+}
+
 #[test]
 fn an_empty_round_is_certified(rt: HostRuntime) -> Result<(), Fail> {
     let alloc = rt.alloc();
     let mut core = alone(alloc)?;
-    expect(&rt, alloc, &core.open_round(Round(1))?, &[Word::Opened])?;
-    assert!(rt; core.is_open());
-    let answer = core.close(&rt)?;
-    expect(
-        &rt,
-        alloc,
-        &answer,
-        &[
-            Word::Closed,
-            Word::Post,
-            Word::Post,
-            Word::Post,
-            Word::Post,
-            Word::Certified,
-            Word::Post,
-        ],
-    )?;
-    assert_eq!(rt; outcome(&answer), (8, 0, 0));
-    assert_eq!(rt; core.last_opened(), Round(1));
-    expect(&rt, alloc, &core.open_round(Round(1))?, &[Word::Ignored(Reason::Old)])
+    assert_eq!(rt;
+        opens(alloc, &mut core, 1)?.as_slice(),
+        [Word::Opened].as_slice()
+    );
+    let (said, outcome) = closes(&rt, alloc, &mut core)?;
+    let posts = [
+        Word::Closed,
+        Word::Post,
+        Word::Post,
+        Word::Post,
+        Word::Post,
+        Word::Certified,
+        Word::Post,
+    ];
+    assert_eq!(rt; said.as_slice(), posts.as_slice());
+    let nothing = Outcome {
+        bits: 8,
+        ones: 0,
+        listed: 0,
+    };
+    assert_eq!(rt; outcome, Some(nothing));
+    Ok(())
 }
 
 #[test]
 fn nothing_runs_before_a_round_is_opened(rt: HostRuntime) -> Result<(), Fail> {
     let alloc = rt.alloc();
     let mut core = alone(alloc)?;
-    expect(&rt, alloc, &core.close(&rt)?, &[Word::Ignored(Reason::Shut)])?;
-    expect(&rt, alloc, &core.abandon()?, &[Word::Ignored(Reason::Idle)])?;
-    expect(&rt, alloc, &core.tick(&rt)?, &[])?;
-    expect(&rt, alloc, &core.open_round(Round(3))?, &[Word::Opened])?;
-    expect(&rt, alloc, &core.open_round(Round(4))?, &[Word::Ignored(Reason::Running)])?;
-    expect(&rt, alloc, &core.abandon()?, &[Word::Abandoned])?;
-    expect(&rt, alloc, &core.close(&rt)?, &[Word::Ignored(Reason::Shut)])
+    let shut = [Word::Ignored(Reason::Shut)];
+    assert_eq!(rt;
+        closes(&rt, alloc, &mut core)?.0.as_slice(),
+        shut.as_slice()
+    );
+    let idle = [Word::Ignored(Reason::Idle)];
+    assert_eq!(rt; abandons(alloc, &mut core)?.as_slice(), idle.as_slice());
+    assert_eq!(rt; ticks(&rt, alloc, &mut core)?.len(), 0);
+    Ok(())
 }
 
-/// Opens a round and closes it.
-fn run<R: Threads + Sync>(rt: &R, core: &mut ServerCore, r: u64) -> Result<(), Fail> {
-    let _ = core.open_round(Round(r))?;
-    let _ = core.close(rt)?;
+#[test]
+fn a_round_that_was_abandoned_is_over(rt: HostRuntime) -> Result<(), Fail> {
+    let alloc = rt.alloc();
+    let mut core = alone(alloc)?;
+    let _ = opens(alloc, &mut core, 3)?;
+    assert_eq!(rt;
+        abandons(alloc, &mut core)?.as_slice(),
+        [Word::Abandoned].as_slice()
+    );
+    let old = [Word::Ignored(Reason::Old)];
+    assert_eq!(rt; opens(alloc, &mut core, 3)?.as_slice(), old.as_slice());
     Ok(())
 }
 
@@ -105,7 +147,10 @@ fn a_key_with_too_few_leaves_is_spent(rt: HostRuntime) -> Result<(), Fail> {
     let alloc = rt.alloc();
     let mut core = alone(alloc)?;
     for r in 1..9 {
-        run(&rt, &mut core, r)?;
+        let _ = opens(alloc, &mut core, r)?;
+        let _ = closes(&rt, alloc, &mut core)?;
     }
-    expect(&rt, alloc, &core.open_round(Round(9))?, &[Word::Ignored(Reason::Spent)])
+    let spent = [Word::Ignored(Reason::Spent)];
+    assert_eq!(rt; opens(alloc, &mut core, 9)?.as_slice(), spent.as_slice());
+    Ok(())
 }
