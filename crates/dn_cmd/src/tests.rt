@@ -192,13 +192,7 @@ fn other_words_are_refused(rt: HostRuntime) -> Result<(), Fail> {
         Status::Usage
     );
     assert_eq!(rt;
-        dissent(
-            &rt,
-            alloc,
-            &words(alloc, "demo")?,
-            &mut input,
-            &mut output
-        ),
+        dissent(&rt, alloc, &words(alloc, "demo")?, &mut input, &mut output),
         Status::Usage
     );
     Ok(())
