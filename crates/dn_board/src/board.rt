@@ -62,6 +62,13 @@ impl Board {
         post
     }
 
+    /// The posts, each with the number of the pass that gave it; post j of the list has the place j + 1.
+    pub fn posts(&self) -> &[(u32, Post)]
+        ensures { result.now ≡ self.now.posts }
+    {
+        &self.posts
+    }
+
     /// The place of the last post under the number, or 0 where there is none: what the next post under it has read.
     pub fn last(&self, number: u32) -> u64
         ensures { result ≡ last_place number self.now.posts }

@@ -46,7 +46,7 @@ pub use payload_fault::PayloadFault;
 pub use rules::{Invalid, Rules, Valid};
 pub use shown::{bit_in, shown_bit};
 pub use trim_laws::{servers_part_the_list, trims_are_one, trims_follow_inventories};
-pub use trimming::trim;
+pub use trimming::{list_with, trim};
 
 #[cfg(test)]
 mod opening_tests;

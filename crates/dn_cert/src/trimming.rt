@@ -1,4 +1,5 @@
-ghost use Rattle.std.specs.Prelude.{◌≡◌, ◌<◌, ◌≤◌, ◌++◌, ◌∷◌, [], length, All, IfOk};
+ghost use Rattle.std.specs.Prelude.{◌≡◌, ◌<◌, ◌≤◌, ◌++◌, ◌∷◌, [], List, length, All, IfOk};
+ghost use Rattle.dn_record_types.specs.declared.inventory.Inventory.{Inventory as InventoryOf};
 ghost use Rattle.dn_cert.specs.Trim.{IsInventory, IsTrim};
 
 use dn_memory::NoMemory;
@@ -17,19 +18,16 @@ fn row(entry: &Entry, server: ServerId) -> Listed
     }
 }
 
-/// The list of some servers with the inventory of the next one, whose clients that aren't listed yet come to it.
-fn with_inventory(
+/// The list of the servers below this one with its inventory, whose clients that aren't listed yet come to it.
+pub fn list_with(
     alloc: Global,
     listed: &[Listed],
-    below: &[Inventory],
+    server: ServerId,
     inventory: &Inventory,
 ) -> Result<Vec<Listed>, NoMemory>
-    requires few { length below.now < 16 }
-    requires trimmed { IsTrim below.now listed.now }
-    requires keeps { IsInventory inventory.now }
-    ensures { IfOk result (λ all. IsTrim (below.now ++ inventory.now ∷ []) all.items) }
+    requires { IsInventory inventory.now }
+    ensures { IfOk result (λ all. (below : List InventoryOf) → length below ≡ server.0 → IsTrim below listed.now → IsTrim (below ++ inventory.now ∷ []) all.items) }
 {
-    let server = ServerId(below.len() as u32);
     let entries = inventory.entries.get();
     let mut all = Vec::new(alloc);
     let mut i = 0;
@@ -59,7 +57,7 @@ pub fn trim(alloc: Global, inventories: &[Inventory]) -> Result<Vec<Listed>, NoM
 {
     let mut listed = Vec::new(alloc);
     for j in 0..inventories.len() {
-        listed = with_inventory(alloc, &listed, &inventories[..j], &inventories[j])?;
+        listed = list_with(alloc, &listed, ServerId(j as u32), &inventories[j])?;
     }
     Ok(listed)
 }

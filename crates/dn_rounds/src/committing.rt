@@ -13,11 +13,11 @@ ghost use Rattle.dn_rounds.specs.Going.{turned, IsSum, IsListing, commitment_of}
 ghost use Rattle.dn_server.specs.Parts.{live};
 ghost use Rattle.dn_rounds.specs.Sound.{IsClaimed, AreClaimed, IsSayable, ListingsFit, AreSound, Stepped, with_sum_if, ThinBodiesFit};
 
-use crate::gathering::inventories;
+use crate::gathering::inventory_by;
 use crate::going::{Due, has_moved, say_due};
 use crate::signing::{keep_past, sign_due, thin_past};
 use dn_bits::Bits;
-use dn_cert::{is_due_thin, make_body, trim};
+use dn_cert::{is_due_thin, list_with, make_body};
 use dn_combine::server_sum;
 use dn_hash::server_digest;
 use dn_memory::NoMemory;
@@ -34,9 +34,13 @@ fn list(parts: &Parts) -> Result<Vec<Listed>, NoMemory>
     ensures { IfOk result (λ listed. (all : List InventoryOf) × AreKept kinds.Inventory 3 parts.now.run.kept (servers_in (live parts.now)) all
         × IsTrim all listed.items) }
 {
-    let n = parts.identity.roster().servers();
-    let all = inventories(parts.alloc, &parts.run.kept, n)?;
-    trim(parts.alloc, &all)
+    let mut listed = Vec::new(parts.alloc);
+    for j in 0..parts.identity.roster().servers() {
+        let server = ServerId(j);
+        let inventory = inventory_by(&parts.run.kept, server);
+        listed = list_with(parts.alloc, &listed, server, inventory)?;
+    }
+    Ok(listed)
 }
 
 /// The ciphertext that is claimed for a row of a list.

@@ -73,20 +73,6 @@ pub fn body_by(kept: &Kept, j: ServerId) -> &Body
     body
 }
 
-/// The inventories of `n` servers.
-pub(crate) fn inventories(alloc: Global, kept: &Kept, n: u32) -> Result<Vec<Inventory>, NoMemory>
-    requires { HasAll 3 kept.now n }
-    ensures kept { IfOk result (λ v. AreKept kinds.Inventory 3 kept.now n v.items) }
-    ensures fit { IfOk result (λ v. All IsInventory v.items) }
-{
-    let mut all = Vec::new(alloc);
-    for j in 0..n {
-        let inventory = inventory_by(kept, ServerId(j)).copy(alloc)?;
-        all.push(inventory)?;
-    }
-    Ok(all)
-}
-
 /// The digests to which `n` servers are committed.
 pub(crate) fn digests(
     alloc: Global,

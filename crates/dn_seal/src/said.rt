@@ -129,3 +129,28 @@ pub fn unseal(alloc: Global, roster: &Roster, bytes: &[u8]) -> Result<Said, Unop
         bytes: kept,
     })
 }
+
+/// What was said in an envelope that is known to unseal under the roster of a group: its signature isn't verified again.
+pub fn unseal_known(alloc: Global, roster: &Roster, bytes: &[u8]) -> Result<Said, NoMemory>
+    requires { (who : SignerId) × (s : Statement) × Unseals roster.now bytes.now who s }
+    ensures { IfOk result (λ s. IsSaid s × IsUnder roster.now s × (s.bytes ≡ bytes.now)) }
+{
+    let Ok(envelope) = decode_envelope(alloc, bytes) else {
+        return Err(NoMemory);
+    };
+    let signer = envelope.signer;
+    let Some(key) = roster.key(signer) else {
+        unreachable!()
+    };
+    let digest = roster.digest();
+    let mut key_kept = [0; 56];
+    key_kept.copy_from_slice(key);
+    Ok(Said {
+        digest,
+        key: key_kept,
+        signer,
+        statement: envelope.statement,
+        signature: envelope.signature,
+        bytes: Vec::from_slice(alloc, bytes)?,
+    })
+}

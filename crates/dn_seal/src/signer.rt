@@ -97,6 +97,39 @@ impl<K: SigKey + Drop> Signer<K> {
     }
 }
 
+impl<K: SigKey + Drop> Signer<K> {
+    /// The signature of a message at the leaf that it draws, behind the leaf's number, which is appended to the draws of the pass.
+    /// `Exhausted` comes exactly where the pass has found that all leaves are drawn. After `NoMemory` the leaf that was drawn, if one
+    /// was, is lost.
+    pub fn sign(
+        &self,
+        alloc: Global,
+        pass: &mut LeafPass,
+        msg: &[u8],
+    ) -> Result<(u32, Vec<u8>), SealFault>
+        requires drawer { pass.old.drawer ≡ self.now.drawer }
+        ensures pass { IsSamePass pass.old pass.new }
+        ensures signed { IfOk result (λ r. (r.0 < K.count self.now.key) × (pass.new.draws ≡ pass.old.draws ++ r.0 ∷ []) × (r.1.items ≡ K.signature self.now.key r.0 msg.now)) }
+
+        // The leaves of passes that have met are distinct, and a pass that stands for all draws them in order.
+        ensures apart { IfOk result (λ _. IsDistinctBelow pass.new.draws (K.count self.now.key)) }
+        ensures alone { pass.old.stands ≡ self.now.drawer.passes → IfOk result (λ r. r.0 ≡ length pass.old.draws) }
+
+        ensures open { IfOk result (λ _. (pass.old.seen ≡ None) × (pass.new.seen ≡ None)) }
+        ensures exhausted { (n : ℕ) → result ≡ Err (SealFault.Exhausted n) → (K.count self.now.key ≤ n) × (pass.new.seen ≡ Some n) × (pass.new.draws ≡ pass.old.draws) }
+        ensures again { IfSome pass.old.seen (λ n. (pass.new.seen ≡ Some n) × (pass.new.draws ≡ pass.old.draws)) }
+        ensures bound { (n : ℕ) → result ≡ Err (SealFault.Exhausted n) → n ≤ K.count self.now.key + self.now.drawer.passes }
+        ensures last { pass.old.stands ≡ self.now.drawer.passes → pass.old.seen ≡ None → (n : ℕ) → result ≡ Err (SealFault.Exhausted n) → n ≡ length pass.old.draws }
+
+        // Where memory is wanting at most one leaf was drawn.
+        ensures lost { result ≡ Err SealFault.NoMemory → (pass.new.seen ≡ pass.old.seen) × IsLeafLost (K.count self.now.key) pass.old.draws pass.new.draws }
+    {
+        let q = self.drawer.draw(pass)?;
+        let signature = self.key.sign_at(alloc, q, msg)?;
+        Ok((q, signature))
+    }
+}
+
 /// Appends the beginning of an envelope, which is all but the signature.
 fn put_statement(out: &mut Vec<u8>, who: SignerId, statement: &[u8]) -> Result<(), NoMemory>
     requires { length statement.now < 2 ^ 32 }

@@ -38,6 +38,17 @@ impl Model for SigningKey {
         × (k.lost ≡ false → (k.pass.seen ≡ None) × (length k.pass.draws ≡ length k.signed.items)) };
 }
 
+/// Copies of statements.
+fn copies(alloc: Global, statements: &[Statement]) -> Result<Vec<Statement>, NoMemory>
+    ensures { IfOk result (λ v. v.items ≡ statements.now) }
+{
+    let mut copies = Vec::new(alloc);
+    for statement in statements {
+        copies.push(statement.copy(alloc)?)?;
+    }
+    Ok(copies)
+}
+
 impl SigningKey {
     /// A key that has signed nothing.
     pub fn make(
@@ -102,5 +113,23 @@ impl SigningKey {
         self.signed.push(s)?;
         self.lost = false;
         Ok(sealed)
+    }
+
+    /// An equal key with leaves of its own. As long as both seal the same statements in the same order, each leaf signs one statement,
+    /// twice the same.
+    pub fn twin(&self, alloc: Global) -> Result<SigningKey, NoMemory>
+        ensures { IfOk result (λ k. k ≡ self.now) }
+    {
+        let drawn = self.leaves - self.left();
+        let (signer, pass) = self.signer.twin(alloc, drawn)?;
+        Ok(SigningKey {
+            digest: self.digest,
+            who: self.who,
+            signer,
+            pass,
+            leaves: self.leaves,
+            signed: copies(alloc, &self.signed)?,
+            lost: self.lost,
+        })
     }
 }

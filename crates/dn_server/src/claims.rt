@@ -19,6 +19,41 @@ pub struct Claim {
     pub cipher: Bits,
 }
 
+impl Claim {
+    /// An equal claim.
+    pub fn copy(&self, alloc: Global) -> Result<Claim, NoMemory>
+        ensures { IfOk result (λ c. c ≡ self.now) }
+    {
+        Ok(Claim {
+            told: self.told,
+            digest: self.digest,
+            signature: self.signature.copy(alloc)?,
+            cipher: self.cipher.copy(alloc)?,
+        })
+    }
+}
+
+/// An equal claim, where there is one.
+fn copy_of(alloc: Global, claim: &Option<Claim>) -> Result<Option<Claim>, NoMemory>
+    ensures { IfOk result (λ c. c ≡ claim.now) }
+{
+    match claim {
+        Some(claim) => Ok(Some(claim.copy(alloc)?)),
+        None => Ok(None),
+    }
+}
+
+/// Equal claims.
+fn copies(alloc: Global, claims: &[Option<Claim>]) -> Result<Vec<Option<Claim>>, NoMemory>
+    ensures { IfOk result (λ v. v.items ≡ claims.now) }
+{
+    let mut copies = Vec::new(alloc);
+    for claim in claims {
+        copies.push(copy_of(alloc, claim)?)?;
+    }
+    Ok(copies)
+}
+
 /// The claims of a round, by client; nothing for a client that made none.
 #[derive(Drop)]
 pub struct Claims {
@@ -44,6 +79,15 @@ impl Claims {
             claims.push(None)?;
         }
         Ok(Claims { claims })
+    }
+
+    /// Equal claims.
+    pub fn copy(&self, alloc: Global) -> Result<Claims, NoMemory>
+        ensures { IfOk result (λ c. c ≡ self.now) }
+    {
+        Ok(Claims {
+            claims: copies(alloc, &self.claims)?,
+        })
     }
 
     /// The claim of client `i`.

@@ -10,17 +10,10 @@ use dn_lms::KeyPair;
 use dn_memory::NoMemory;
 use dn_records::Statement;
 use dn_roster::Roster;
-use dn_seal::{Said, SigningKey, Unopened, unseal};
+use dn_seal::{Said, SigningKey, unseal_known};
 use dn_wire::{ServerId, SignerId};
 use std::alloc::Global;
 use std::marker::Model;
-
-/// The only reason why what was sealed doesn't unseal.
-fn only_memory(_fault: Unopened) -> NoMemory
-    requires { _fault ≡ Unopened.NoMemory }
-{
-    NoMemory
-}
 
 /// A server in its group: the roster, its number, and its key with all that this signed.
 #[derive(Drop)]
@@ -85,6 +78,25 @@ impl Identity {
         self.key.left()
     }
 
+    /// The number of the key's leaves.
+    pub fn leaves(&self) -> u32
+        ensures { result ≡ leaf_count self.now.key }
+    {
+        self.key.leaves()
+    }
+
+    /// An equal identity, whose key has leaves of its own.
+    pub fn twin(&self, alloc: Global) -> Result<Identity, NoMemory>
+        ensures { IfOk result (λ d. d ≡ self.now) }
+    {
+        Ok(Identity {
+            roster: self.roster.copy(alloc)?,
+            number: self.number,
+            key: self.key.twin(alloc)?,
+            lost: self.lost,
+        })
+    }
+
     /// The envelope of a statement, signed at the next leaf. After `NoMemory` it signs no more: each later call answers so too.
     pub fn seal(&mut self, alloc: Global, s: Statement) -> Result<Vec<u8>, NoMemory>
         requires leaf { length self.old.signed < leaf_count self.old.key }
@@ -109,9 +121,6 @@ impl Identity {
         ensures after { OnOk result (self.new ≡ with_said self.old s) }
     {
         let bytes = self.seal(alloc, s)?;
-        match unseal(alloc, &self.roster, &bytes) {
-            Ok(said) => Ok(said),
-            Err(fault) => Err(only_memory(fault)),
-        }
+        unseal_known(alloc, &self.roster, &bytes)
     }
 }

@@ -53,6 +53,17 @@ fn find(kept: &[Said], kind: RoundKind, j: ServerId) -> Option<&Said>
     None
 }
 
+/// Equal statements.
+fn copies(alloc: Global, kept: &[Said]) -> Result<Vec<Said>, NoMemory>
+    ensures { IfOk result (λ v. v.items ≡ kept.now) }
+{
+    let mut copies = Vec::new(alloc);
+    for said in kept {
+        copies.push(said.copy(alloc)?)?;
+    }
+    Ok(copies)
+}
+
 /// Statements that a server keeps, in the order in which they came.
 #[derive(Drop)]
 pub struct Kept {
@@ -76,6 +87,15 @@ impl Kept {
         Kept {
             said: Vec::new(alloc),
         }
+    }
+
+    /// Equal statements.
+    pub fn copy(&self, alloc: Global) -> Result<Kept, NoMemory>
+        ensures { IfOk result (λ k. k ≡ self.now) }
+    {
+        Ok(Kept {
+            said: copies(alloc, &self.said)?,
+        })
     }
 
     /// The statements, in their order.

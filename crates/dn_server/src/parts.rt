@@ -1,9 +1,13 @@
+ghost use Rattle.std.specs.Prelude.{◌≡◌, IfOk};
+ghost use Rattle.dn_server.specs.Parts.{live};
+
 use crate::identity::Identity;
 use crate::kept::Kept;
 use crate::past::Pasts;
 use crate::places::Places;
 use crate::run::Run;
 use dn_cert::Chain;
+use dn_memory::NoMemory;
 use dn_pads::Seed;
 use std::alloc::Global;
 
@@ -33,4 +37,28 @@ pub struct Parts {
     pub bend: Option<u32>,
     /// Whether it ever did more than the rules say.
     pub bent: bool,
+}
+
+impl Parts {
+    /// Equal parts, whose key has leaves of its own.
+    pub fn twin(&self) -> Result<Parts, NoMemory>
+        ensures { IfOk result (λ p. live p ≡ live self.now) }
+    {
+        let alloc = self.alloc;
+        Ok(Parts {
+            alloc,
+            workers: self.workers,
+            identity: self.identity.twin(alloc)?,
+            seeds: Vec::from_slice(alloc, &self.seeds)?,
+            chain: self.chain.copy(alloc)?,
+            run: self.run.copy(alloc)?,
+            pasts: self.pasts.copy(alloc)?,
+            opened: self.opened.copy(alloc)?,
+            evidence: self.evidence.copy(alloc)?,
+            challenged: self.challenged.copy(alloc)?,
+            aside: self.aside,
+            bend: self.bend,
+            bent: self.bent,
+        })
+    }
 }

@@ -1,4 +1,4 @@
-ghost use Rattle.std.specs.Prelude.{◌≡◌, ◌++◌, ◌∷◌, [], OnOk, MatchOption, Some, None};
+ghost use Rattle.std.specs.Prelude.{◌≡◌, ◌++◌, ◌∷◌, [], IfOk, OnOk, MatchOption, Some, None};
 ghost use Rattle.dn_server.specs.Server.{past_of};
 
 use dn_bits::Bits;
@@ -17,6 +17,30 @@ pub struct Past {
     pub s: Bits,
     /// The ciphertexts of the clients that the body gives to the server.
     pub own: Shows,
+}
+
+impl Past {
+    /// Equal ciphertexts of an equal body.
+    pub fn copy(&self, alloc: Global) -> Result<Past, NoMemory>
+        ensures { IfOk result (λ p. p ≡ self.now) }
+    {
+        Ok(Past {
+            body: self.body.copy(alloc)?,
+            s: self.s.copy(alloc)?,
+            own: self.own.copy(alloc)?,
+        })
+    }
+}
+
+/// Equal ones.
+fn copies(alloc: Global, pasts: &[Past]) -> Result<Vec<Past>, NoMemory>
+    ensures { IfOk result (λ v. v.items ≡ pasts.now) }
+{
+    let mut copies = Vec::new(alloc);
+    for past in pasts {
+        copies.push(past.copy(alloc)?)?;
+    }
+    Ok(copies)
 }
 
 /// The first that is kept of round `r`.
@@ -54,6 +78,15 @@ impl Pasts {
         Pasts {
             pasts: Vec::new(alloc),
         }
+    }
+
+    /// An equal list.
+    pub fn copy(&self, alloc: Global) -> Result<Pasts, NoMemory>
+        ensures { IfOk result (λ p. p ≡ self.now) }
+    {
+        Ok(Pasts {
+            pasts: copies(alloc, &self.pasts)?,
+        })
     }
 
     /// What is kept of round `r`.

@@ -1,4 +1,4 @@
-ghost use Rattle.std.specs.Prelude.{◌≡◌, ◌++◌, ◌∷◌, [], ◌↔◌, Contains, IsTrue, OnOk};
+ghost use Rattle.std.specs.Prelude.{◌≡◌, ◌++◌, ◌∷◌, [], ◌↔◌, Contains, IsTrue, IfOk, OnOk};
 
 use dn_memory::NoMemory;
 use dn_wire::Round;
@@ -35,6 +35,15 @@ impl Places {
         Places {
             places: Vec::new(alloc),
         }
+    }
+
+    /// An equal list.
+    pub fn copy(&self, alloc: Global) -> Result<Places, NoMemory>
+        ensures { IfOk result (λ p. p ≡ self.now) }
+    {
+        Ok(Places {
+            places: Vec::from_slice(alloc, &self.places)?,
+        })
     }
 
     /// The places, in their order.

@@ -3,7 +3,7 @@
 //! A `Turns` keeps two shared words, the tickets drawn and the ticket that is served, and the log. Each thread takes its
 //! turns with a `TurnPass` of its own, which contracts see with the log that it has seen: every log that it meets later
 //! begins with that one, and has no further entry under the pass's own numbers. A `Turn` lends the log and ends by `give`,
-//! which adds one entry.
+//! which adds one entry, or by `leave`, which adds none.
 #![tactic(auto)]
 
 mod entries;

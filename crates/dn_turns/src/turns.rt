@@ -74,7 +74,7 @@ impl<L: Log> Model for TurnPass<L> {
     ghost invariant = { λ p. IsPass L.list L.base p.seat.me p.number p.full };
 }
 
-/// The log, lent to the pass whose turn it is. It can't be dropped: `give` ends it.
+/// The log, lent to the pass whose turn it is. It can't be dropped: `give` or `leave` ends it.
 pub struct Turn<L: Log> {
     log: L,
     of: Snapshot<SeatOf<L>>,
@@ -199,6 +199,16 @@ impl<L: Log + Drop> Turns<L> {
     {
         let Turn { mut log, of: _ } = turn;
         log.add(pass.number, entry);
+        pass_on(&self.table.shared, &mut pass.seat, log);
+    }
+
+    /// Passes the turn on, and adds nothing.
+    pub fn leave(&self, pass: &mut TurnPass<L>, turn: Turn<L>)
+        requires { (pass.old.lock ≡ self.now) × IsTurnOf L.list L.base turn pass.old }
+        ensures pass { IsSamePass pass.old pass.new × (pass.new.drawn ≡ pass.old.drawn) × (pass.new.full ≡ pass.old.full) }
+        ensures left { (pass.new.turn ≡ None) × (pass.new.seen ≡ L.list turn.log) }
+    {
+        let Turn { log, of: _ } = turn;
         pass_on(&self.table.shared, &mut pass.seat, log);
     }
 

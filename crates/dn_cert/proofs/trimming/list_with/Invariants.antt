@@ -1,6 +1,6 @@
 use Rattle.std.proofs.Common.{◌≡◌, ◌+◌, ◌-◌, ◌≤◌, ◌++◌, length, drop}
 use Rattle.dn_cert.proofs.Merging.{merged}
-use Rattle.dn_cert.proofs.trimming.with_inventory.Given as goal
+use Rattle.dn_cert.proofs.trimming.list_with.Given as goal
 
 abbrev pub invariant-loop-i : goal.invariant-loop-i
 invariant-loop-i l = record {
