@@ -44,9 +44,9 @@ in_run v run signed aside round same is = record {
   sum = λ sum e. subst (λ r. CanSign (itself v) (kinds.Shown r sum.s sum.own)) (sym round) (is.sum sum (sym same ∙ e));
 }
 
--- a server that is told to change a sum
-pub bent_open : (v : ServerView) (at : Option ℕ) → IsOpen v → IsOpen (record v { bend = at; bent = true })
-bent_open v at is = record { can = moved v (record v { bend = at; bent = true }) refl refl refl refl refl refl is.can; sum = is.sum }
+-- a server that is bent, by what it is told to change in a sum, and by what it was made to sign
+pub bent_by : (v : ServerView) (at : Option ℕ) (signed : List Statement) → IsOpen v → IsOpen (record v { bend = at; signed = signed; bent = true })
+bent_by v at signed is = record { can = moved v (record v { bend = at; signed = signed; bent = true }) refl refl refl refl refl refl is.can; sum = is.sum }
 
 pub ended_open : (v : ServerView) → IsOpen v → IsOpen (ended v)
 ended_open v is = record { can = moved v (ended v) refl refl refl refl refl refl is.can; sum = is.sum }

@@ -150,7 +150,7 @@ module _ (claims : List (Option Claim)) (k : ℕ) (c : Claim) (late : c.told ≡
 
 module _ (v : ServerView) (said : SaidView) (cipher : List Bool) (t : Submitted) (is : IsSubmitted said cipher t) (at : IsSaid said) (under : IsUnder v.seat.roster said)
     (fits : IsFitting v.run t) (s : IsSound v) (new : has_of v.run.window t.client.0 ≡ false) where
-  abbrev claim : Claim
+  abbrev pub claim : Claim
   claim = record { told = word_for v.run.window.closed; digest = t.digest; signature = t.signature; cipher = t.cipher }
 
   key : key_of v.seat.roster (signers.Client t.client) ≡ Some said.key
@@ -168,17 +168,17 @@ module _ (v : ServerView) (said : SaidView) (cipher : List Bool) (t : Submitted)
         (λ i. envelope ((is.who ∙ fits.by_client) i) ((is.statement ∙ (λ j. kinds.Submission (fits.round j) (fits.prev j) t.client t.digest)) i) (is.signature i)) at.verifies),
   )
 
-  abbrev after_claim : ServerView
+  abbrev pub after_claim : ServerView
   after_claim = record (with_signed v (receipt_of v t)) { run = with_claim v.run t }
 
-  none_before : (x : Claim) → slice_get v.run.claims t.client.0 ≡ Some (Some x) → ⊥
+  pub none_before : (x : Claim) → slice_get v.run.claims t.client.0 ≡ Some (Some x) → ⊥
   none_before x e = apart (sym new ∙ s.claimed t.client.0 x e)
     where
       apart : false ≡ true → ⊥
       apart h = cc
 
   -- a window that is closed tells Late
-  inventory_same : v.run.window.closed ≡ true → inventory_of (with_claim v.run t) ≡ inventory_of v.run
+  pub inventory_same : v.run.window.closed ≡ true → inventory_of (with_claim v.run t) ≡ inventory_of v.run
   inventory_same e = λ i. record { r = v.run.r; prev = v.run.prev; entries = entries_same v.run.claims t.client.0 claim (ap word_for e) none_before i }
 
   abbrev standing_with : Inventory → Standing

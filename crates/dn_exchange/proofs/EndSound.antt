@@ -6,6 +6,7 @@ use Rattle.dn_exchange.specs.Ending.Abandons.{is_idle, abandons}
 use Rattle.std.specs.Prelude.{List, All, Option}
 use Rattle.dn_record_types.specs.declared.body.Body.{Body}
 use Rattle.dn_cert.specs.Certificate.{IsOfRoster}
+use Rattle.dn_record_types.specs.declared.statement.Statement.{Statement}
 use Rattle.dn_server.specs.Server.{ServerView, ended}
 use Rattle.dn_exchange.specs.Invariant.{IsSound}
 
@@ -39,9 +40,9 @@ pub abandons_sound : (v : ServerView) (a : Answer) (w : ServerView) → IsSound 
 abandons_sound v a w s (is_idle i e f) = subst IsSound (sym f) s
 abandons_sound v a w s (abandons i e f) = subst IsSound (sym f) (ended_sound v s)
 
--- a server that is told to change a sum
-pub bent_sound : (v : ServerView) (at : Option ℕ) → IsSound v → IsSound (record v { bend = at; bent = true })
-bent_sound v at s = record {
+-- a server that is bent, by what it is told to change in a sum, and by what it was made to sign
+pub bent_by : (v : ServerView) (at : Option ℕ) (signed : List Statement) → IsSound v → IsSound (record v { bend = at; signed = signed; bent = true })
+bent_by v at signed s = record {
   seated = record { roster = s.seated.roster; number = s.seated.number; seeds = s.seated.seeds };
   member = s.member;
   is_key = s.is_key;

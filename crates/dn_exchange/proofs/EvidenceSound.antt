@@ -1,6 +1,8 @@
 -- A server that hears of openings stays sound.
 use Rattle.std.proofs.Common.{◌≡◌, ℕ, ◌+◌, ◌-◌, ◌≤◌, Bool, true, false, List, [], ◌∷◌, ◌++◌, length, cond, refl, sym, ap, subst, ◌∙◌, arith, inl, inr, length-append}
-use Rattle.std.specs.Prelude.{◌⊎◌}
+use Rattle.std.specs.Prelude.{◌⊎◌, Contains}
+use Rattle.std.proofs.lemmas.List.Elements.{Contains-append_left, Contains-push_cases}
+use Rattle.dn_records.specs.Records.{kind_byte}
 use Rattle.dn_wire.specs.declared.ids.Round.{Round}
 use Rattle.dn_record_types.specs.declared.body.Body.{Body}
 use Rattle.dn_record_types.specs.declared.statement.Statement.{Statement}
@@ -17,7 +19,11 @@ use Rattle.dn_openings.specs.Hearing.{not_held, repeats, keeps, repeats_it, keep
 use Rattle.dn_openings.proofs.OpenLemmas.{signed_so}
 use Rattle.dn_exchange.specs.Invariant.{IsSound}
 
--- the server has n statements more that it signed, and other openings
+-- the statement is pad bits, or shows ciphertexts
+abbrev pub IsOpening : Statement → Type 0
+IsOpening s = (7 ≤ kind_byte s) × (kind_byte s ≤ 8)
+
+-- the server has n statements more that it signed, all openings, and other openings
 pub record Grown (v w : ServerView) (n : ℕ) : Type 0 where
   pub signed : List Statement
   pub opened : List Place
@@ -25,9 +31,11 @@ pub record Grown (v w : ServerView) (n : ℕ) : Type 0 where
   pub challenged : List Place
   pub is : w ≡ record v { signed = signed; opened = opened; evidence = evidence; challenged = challenged }
   pub count : length signed ≡ length v.signed + n
+  pub stay : (t : Statement) → Contains v.signed t → Contains signed t
+  pub come : (t : Statement) → Contains signed t → Contains v.signed t ⊎ IsOpening t
 
 not_grown : (v w : ServerView) → w ≡ v → Grown v w 0
-not_grown v w e = record { signed = v.signed; opened = v.opened; evidence = v.evidence; challenged = v.challenged; is = e; count = omega arith }
+not_grown v w e = record { signed = v.signed; opened = v.opened; evidence = v.evidence; challenged = v.challenged; is = e; count = omega arith; stay = λ t c. c; come = λ t c. inl c }
 
 grown_over : (v w x : ServerView) (m n : ℕ) → Grown v w m → Grown w x n → Grown v x (m + n)
 grown_over v w x m n p q =
@@ -42,11 +50,13 @@ grown_over v w x m n p q =
       challenged = q.challenged;
       is = q.is ∙ ap (λ (y : ServerView). let z : ServerView = record y { signed = q.signed; opened = q.opened; evidence = q.evidence; challenged = q.challenged } in z) p.is;
       count = omega arith;
+      stay = λ t c. q.stay t (subst (λ (y : ServerView). Contains y.signed t) (sym p.is) (p.stay t c));
+      come = λ t c. elim (q.come t c) [ inl was ↦ p.come t (subst (λ (y : ServerView). Contains y.signed t) p.is was) | inr new ↦ inr new ];
     }
 
 looked_grown : (v w : ServerView) (place : Place) → w ≡ with_looked v place → Grown v w 0
 looked_grown v w place e =
-    record { signed = v.signed; opened = v.opened; evidence = v.evidence; challenged = v.challenged ++ place ∷ []; is = e; count = omega arith }
+    record { signed = v.signed; opened = v.opened; evidence = v.evidence; challenged = v.challenged ++ place ∷ []; is = e; count = omega arith; stay = λ t c. c; come = λ t c. inl c }
 
 looks_grown : (v : ServerView) (place : Place) (did : List Act) (w : ServerView) → LooksAt v place did w → Grown v w 0
 looks_grown v place did w (has_looked old nothing same) = not_grown v w same
@@ -60,29 +70,38 @@ looks_all_grown v places did w (none nowhere nothing same) = not_grown v w same
 looks_all_grown v places did w (more place others first rest between is all look did_is) =
     grown_over v between w 0 0 (looks_all_grown v others first between all) (looks_grown between place rest w look)
 
-signs_grown : (v : ServerView) (s : Statement) (w : ServerView) → SignsAndKeeps v s w → Grown v w 1
-signs_grown v s w signs =
+signs_grown : (v : ServerView) (s : Statement) (w : ServerView) → IsOpening s → SignsAndKeeps v s w → Grown v w 1
+signs_grown v s w opens_it signs =
     let so = signed_so v s w signs in
-    record { signed = v.signed ++ s ∷ []; opened = v.opened; evidence = so.evidence; challenged = v.challenged; is = so.is; count = length-append v.signed (s ∷ []) }
+    record {
+      signed = v.signed ++ s ∷ [];
+      opened = v.opened;
+      evidence = so.evidence;
+      challenged = v.challenged;
+      is = so.is;
+      count = length-append v.signed (s ∷ []);
+      stay = λ t c. Contains-append_left v.signed (s ∷ []) t c;
+      come = λ t c. elim (Contains-push_cases v.signed s t c) [ inl was ↦ inl was | inr new ↦ inr (subst IsOpening new opens_it) ];
+    }
 
 kept_grown : (v w : ServerView) (said : SaidView) → w ≡ with_evidence v said → Grown v w 0
-kept_grown v w said e = record { signed = v.signed; opened = v.opened; evidence = v.evidence ++ said ∷ []; challenged = v.challenged; is = e; count = omega arith }
+kept_grown v w said e = record { signed = v.signed; opened = v.opened; evidence = v.evidence ++ said ∷ []; challenged = v.challenged; is = e; count = omega arith; stay = λ t c. c; come = λ t c. inl c }
 
 shows_grown : (v : ServerView) (past : Past) (did : List Act) (w : ServerView) → Shows v past did w
     → ((has_opened v past.body.r ≡ false) × Grown v w 1) ⊎ Grown v w 0
-shows_grown v past did w (first_of_round lacks signs did_is) = inl (lacks, signs_grown v (shown_of past) w signs)
+shows_grown v past did w (first_of_round lacks signs did_is) = inl (lacks, signs_grown v (shown_of past) w (omega arith, omega arith) signs)
 shows_grown v past did w (again said has there by is did_is same) = inr (not_grown v w same)
 
 opened_grown : (v : ServerView) (place : Place) → Grown v (with_opened v place) 0
 opened_grown v place =
-    record { signed = v.signed; opened = v.opened ++ place ∷ []; evidence = v.evidence; challenged = v.challenged; is = refl; count = omega arith }
+    record { signed = v.signed; opened = v.opened ++ place ∷ []; evidence = v.evidence; challenged = v.challenged; is = refl; count = omega arith; stay = λ t c. c; come = λ t c. inl c }
 
 -- what is signed for a place are no more than the leaves that are due
 opens_grown : (v : ServerView) (b : Body) (past : Past) (k : ℕ) (did : List Act) (w : ServerView) (r : Round) → HasSigned v r b past
     → Opens v b past k did w → (n : ℕ) × Grown v w n × (n ≤ leaves_due v r)
 opens_grown v b past k did w r signed o =
     let place : Place = record { r = b.r; k = k } in
-    let first : Grown v o.padded 1 = signs_grown v (pads_at v.seat b k) o.padded o.signs in
+    let first : Grown v o.padded 1 = signs_grown v (pads_at v.seat b k) o.padded (omega arith, omega arith) o.signs in
     let last : Grown o.shown w 0 = grown_over o.shown (with_opened o.shown place) w 0 0 (opened_grown o.shown place) (looks_grown (with_opened o.shown place) place o.looked_did w o.looks) in
     let same : past.body.r ≡ r = ap (λ (x : Body). x.r) signed.of_body ∙ signed.round in
     let due : (b : Bool) → has_opened v r ≡ b → leaves_due v r ≡ cond b 1 2 = λ b e. ap (λ t. cond t 1 2) e in

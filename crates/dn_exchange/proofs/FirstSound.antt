@@ -30,7 +30,7 @@ use Rattle.dn_exchange.specs.Opening.Opens.{is_old, is_running, is_spent, opens}
 use Rattle.dn_exchange.specs.Invariant.{IsSound, IsRunning, IsCourse, standing_of}
 
 -- nobody has a claim yet
-none_claimed : (n i : ℕ) (c : Claim) → slice_get (replicate n (let none : Option Claim = None in none)) i ≡ Some (Some c) → ⊥
+pub none_claimed : (n i : ℕ) (c : Claim) → slice_get (replicate n (let none : Option Claim = None in none)) i ≡ Some (Some c) → ⊥
 none_claimed n i c e =
     let none : Option Claim = None in
     let within = slice_get_within (replicate n none) i (Some c) e in

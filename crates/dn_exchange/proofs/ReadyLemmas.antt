@@ -82,13 +82,13 @@ got_contains xs k x e =
 
 -- ---- statements that are kept
 
-statement_fits : (kept : List SaidView) (kind j : ℕ) (s : Statement) → All IsSaid kept → statement_of kept kind j ≡ Some s → IsStatement s
+pub statement_fits : (kept : List SaidView) (kind j : ℕ) (s : Statement) → All IsSaid kept → statement_of kept kind j ≡ Some s → IsStatement s
 statement_fits kept kind j s all e =
     let found = statement_said kept kind j s e in
     let is = All-find IsSaid (is_of kind j) kept found.0 all found.1 in
     subst IsStatement found.2 is.fits.1.1
 
-statement_small : (kept : List SaidView) (kind j : ℕ) (s : Statement) → All IsSaid kept → statement_of kept kind j ≡ Some s → length (statement_bytes s) ≤ 16777216
+pub statement_small : (kept : List SaidView) (kind j : ℕ) (s : Statement) → All IsSaid kept → statement_of kept kind j ≡ Some s → length (statement_bytes s) ≤ 16777216
 statement_small kept kind j s all e =
     let found = statement_said kept kind j s e in
     let is = All-find IsSaid (is_of kind j) kept found.0 all found.1 in
@@ -191,7 +191,7 @@ module _ (v : ServerView) (sound : IsSound v) (running : IsRunning (standing_of 
         fits = subst (λ k. claim.digest ≡ cipher_digest_of v.run.r.0 k (bytes_of claim.cipher)) at is.digest;
       }
 
-  claimed_rows : HasListed (standing_of v) → AreClaimed v.run (given_to listed v.seat.number)
+  pub claimed_rows : HasListed (standing_of v) → AreClaimed v.run (given_to listed v.seat.number)
   claimed_rows has =
       let mine : Listed → Bool = λ l. l.server.0 == v.seat.number in
       let given = given_to listed v.seat.number in
@@ -255,7 +255,7 @@ module _ (v : ServerView) (sound : IsSound v) (running : IsRunning (standing_of 
 
 -- ---- certificates
 
-small_body : (b : Body) → length (statement_bytes (kinds.Sign b)) ≤ 16777216 → length (body_part.spell b) < 2 ^ 32
+pub small_body : (b : Body) → length (statement_bytes (kinds.Sign b)) ≤ 16777216 → length (body_part.spell b) < 2 ^ 32
 unfolding statement_bytes
 small_body b few = omega arith
 

@@ -8,3 +8,8 @@ pub mod Making
 pub mod Invariant
 pub mod Openings
 pub mod Listening
+pub mod Signing
+pub mod Disciplined
+pub mod Honest
+pub mod Settled
+pub mod Whole

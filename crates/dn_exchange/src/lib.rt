@@ -12,6 +12,7 @@ mod listening;
 mod making;
 mod opening;
 mod server_core;
+mod signing;
 mod submitting;
 
 pub use laws::seats_stay;

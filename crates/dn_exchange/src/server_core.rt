@@ -1,5 +1,5 @@
 // The calls of a server.
-ghost use Rattle.std.specs.Prelude.{◌≡◌, ◌≤◌, ◌<◌, ◌+◌, ◌++◌, ◌∷◌, [], not, true, false, length, Some, None, IsErr, IfOk, MatchOption, OnOk, OnErr, Err, IsTrue, ◌↔◌, option_map, ℕ};
+ghost use Rattle.std.specs.Prelude.{◌≡◌, ◌≤◌, ◌<◌, ◌+◌, ◌++◌, ◌∷◌, [], not, true, false, length, Some, None, IsErr, IfOk, IfErr, MatchOption, OnOk, OnErr, Err, IsTrue, ◌↔◌, option_map, ℕ};
 ghost use Rattle.dn_seal.specs.Said.{IsUnder};
 ghost use Rattle.dn_seal.specs.Signer.{CanSign};
 ghost use Rattle.dn_cert.specs.Certificate.{IsCertificateUnder};
@@ -11,6 +11,9 @@ ghost use Rattle.dn_exchange.specs.Closing.{Ticks, Shuts};
 ghost use Rattle.dn_exchange.specs.Ending.{Abandons, HoldsOn};
 ghost use Rattle.dn_exchange.specs.Listening.{Hears};
 ghost use Rattle.dn_exchange.specs.Making.{first_server};
+ghost use Rattle.dn_exchange.specs.Signing.{SignsNext, SignsNothing};
+ghost use Rattle.dn_exchange.specs.Disciplined.{Disciplined};
+ghost use Rattle.dn_exchange.specs.Settled.{Settled};
 ghost use Rattle.dn_exchange.specs.Invariant.{HasClaim};
 
 use crate::closing::{close, tick};
@@ -18,11 +21,14 @@ use crate::ending::{abandon, hold};
 use crate::listening::hear;
 use crate::making::make;
 use crate::opening::open_round;
+use crate::signing::sign;
 use crate::submitting::submitted;
 use dn_bits::Bits;
 use dn_cert::{Certificate, Rules};
 use dn_memory::NoMemory;
-use dn_seal::{Dealt, Said};
+use dn_records::Statement;
+use dn_roster::Roster;
+use dn_seal::{Dealt, Said, SealFault};
 use dn_server::{Answer, Parts};
 use dn_wire::{ClientId, Round, ServerId};
 use std::alloc::Global;
@@ -40,14 +46,13 @@ impl Model for ServerCore {
     ghost use Rattle.std.specs.Prelude.{◌≡◌, false};
     ghost use Rattle.dn_server.specs.Parts.{view_of, live};
     ghost use Rattle.dn_server.specs.Server.{ServerView};
-    ghost use Rattle.dn_exchange.specs.Invariant.{IsSound};
-    ghost use Rattle.dn_exchange.specs.Openings.{IsOpen};
+    ghost use Rattle.dn_exchange.specs.Whole.{IsWhole};
 
     ghost Value = { ServerView };
 
     ghost view = { λ c. view_of c.parts c.is_spent };
 
-    ghost invariant = { λ c. c.is_spent ≡ false → IsSound (live c.parts) × IsOpen (live c.parts) };
+    ghost invariant = { λ c. c.is_spent ≡ false → IsWhole (live c.parts) };
 }
 
 impl ServerCore {
@@ -61,7 +66,8 @@ impl ServerCore {
         requires within { j.0 < dealt.now.spec.servers }
         requires some { 1 ≤ workers }
         requires few { workers ≤ 16 }
-        ensures { IfOk result (λ c. c ≡ first_server dealt.now.spec dealt.now.roster j.0 workers) }
+        ensures server { IfOk result (λ c. c ≡ first_server dealt.now.spec dealt.now.roster j.0 workers) }
+        ensures disciplined { IfOk result Disciplined }
     {
         Ok(ServerCore {
             parts: make(alloc, dealt, j, workers)?,
@@ -74,6 +80,10 @@ impl ServerCore {
         ensures answer { IfOk result (λ a. Opens self.old r a self.new) }
         ensures spent { OnErr result (self.new.spent ≡ true) }
         ensures stays_spent { self.old.spent ≡ true → IsErr result }
+        ensures seat { OnOk result (self.new.seat ≡ self.old.seat) }
+        ensures bent { OnOk result (self.new.bent ≡ self.old.bent) }
+        ensures disciplined { OnOk result (self.new.bent ≡ false → Disciplined self.new) }
+        ensures settled { OnOk result (self.new.bent ≡ false → self.new.run.is_running ≡ true → Settled self.new) }
     {
         if self.is_spent {
             return Err(NoMemory);
@@ -91,6 +101,10 @@ impl ServerCore {
         ensures answer { IfOk result (λ a. TakesSubmission self.old said.now cipher.now a self.new) }
         ensures spent { OnErr result (self.new.spent ≡ true) }
         ensures stays_spent { self.old.spent ≡ true → IsErr result }
+        ensures seat { OnOk result (self.new.seat ≡ self.old.seat) }
+        ensures bent { OnOk result (self.new.bent ≡ self.old.bent) }
+        ensures disciplined { OnOk result (self.new.bent ≡ false → Disciplined self.new) }
+        ensures settled { OnOk result (self.new.bent ≡ false → self.new.run.is_running ≡ true → Settled self.new) }
     {
         if self.is_spent {
             return Err(NoMemory);
@@ -106,6 +120,10 @@ impl ServerCore {
         ensures answer { IfOk result (λ a. Ticks self.old a self.new) }
         ensures spent { OnErr result (self.new.spent ≡ true) }
         ensures stays_spent { self.old.spent ≡ true → IsErr result }
+        ensures seat { OnOk result (self.new.seat ≡ self.old.seat) }
+        ensures bent { OnOk result (self.new.bent ≡ self.old.bent) }
+        ensures disciplined { OnOk result (self.new.bent ≡ false → Disciplined self.new) }
+        ensures settled { OnOk result (self.new.bent ≡ false → self.new.run.is_running ≡ true → Settled self.new) }
     {
         if self.is_spent {
             return Err(NoMemory);
@@ -121,6 +139,10 @@ impl ServerCore {
         ensures answer { IfOk result (λ a. Shuts self.old a self.new) }
         ensures spent { OnErr result (self.new.spent ≡ true) }
         ensures stays_spent { self.old.spent ≡ true → IsErr result }
+        ensures seat { OnOk result (self.new.seat ≡ self.old.seat) }
+        ensures bent { OnOk result (self.new.bent ≡ self.old.bent) }
+        ensures disciplined { OnOk result (self.new.bent ≡ false → Disciplined self.new) }
+        ensures settled { OnOk result (self.new.bent ≡ false → self.new.run.is_running ≡ true → Settled self.new) }
     {
         if self.is_spent {
             return Err(NoMemory);
@@ -143,6 +165,10 @@ impl ServerCore {
         ensures answer { IfOk result (λ a. Hears self.old said.now a self.new) }
         ensures spent { OnErr result (self.new.spent ≡ true) }
         ensures stays_spent { self.old.spent ≡ true → IsErr result }
+        ensures seat { OnOk result (self.new.seat ≡ self.old.seat) }
+        ensures bent { OnOk result (self.new.bent ≡ self.old.bent) }
+        ensures disciplined { OnOk result (self.new.bent ≡ false → Disciplined self.new) }
+        ensures settled { OnOk result (self.new.bent ≡ false → self.new.run.is_running ≡ true → Settled self.new) }
     {
         if self.is_spent {
             return Err(NoMemory);
@@ -159,6 +185,10 @@ impl ServerCore {
         ensures answer { IfOk result (λ a. HoldsOn self.old c.now a self.new) }
         ensures spent { OnErr result (self.new.spent ≡ true) }
         ensures stays_spent { self.old.spent ≡ true → IsErr result }
+        ensures seat { OnOk result (self.new.seat ≡ self.old.seat) }
+        ensures bent { OnOk result (self.new.bent ≡ self.old.bent) }
+        ensures disciplined { OnOk result (self.new.bent ≡ false → Disciplined self.new) }
+        ensures settled { OnOk result (self.new.bent ≡ false → self.new.run.is_running ≡ true → Settled self.new) }
     {
         if self.is_spent {
             return Err(NoMemory);
@@ -174,6 +204,10 @@ impl ServerCore {
         ensures answer { IfOk result (λ a. Abandons self.old a self.new) }
         ensures spent { OnErr result (self.new.spent ≡ true) }
         ensures stays_spent { self.old.spent ≡ true → IsErr result }
+        ensures seat { OnOk result (self.new.seat ≡ self.old.seat) }
+        ensures bent { OnOk result (self.new.bent ≡ self.old.bent) }
+        ensures disciplined { OnOk result (self.new.bent ≡ false → Disciplined self.new) }
+        ensures settled { OnOk result (self.new.bent ≡ false → self.new.run.is_running ≡ true → Settled self.new) }
     {
         if self.is_spent {
             return Err(NoMemory);
@@ -182,6 +216,20 @@ impl ServerCore {
         let answer = abandon(&mut self.parts)?;
         self.is_spent = false;
         Ok(answer)
+    }
+
+    /// The roster of the server's group.
+    pub fn roster(&self) -> &Roster
+        ensures { result.now ≡ self.now.seat.roster }
+    {
+        self.parts.identity.roster()
+    }
+
+    /// The server's number.
+    pub fn number(&self) -> ServerId
+        ensures { result.0 ≡ self.now.seat.number }
+    {
+        self.parts.identity.number()
     }
 
     /// The round that was opened last, and round 0 before any.
@@ -223,6 +271,43 @@ impl ServerCore {
             Some(_claim) => true,
             None => false,
         }
+    }
+
+    /// The envelope of any statement, signed at the next leaf, also where that is set aside. From then on the server is bent: it goes by the rules
+    /// all the same, as long as it has leaves, but of what it signed nothing is promised.
+    pub fn sign(&mut self, s: &Statement) -> Result<Vec<u8>, SealFault>
+        requires { CanSign (itself self.old) s.now }
+        ensures signed { IfOk result (λ v. SignsNext self.old s.now v.items self.new) }
+        ensures refused { IfErr result (λ f. SignsNothing self.old f self.new) }
+        ensures spent { result ≡ Err (SealFault.NoMemory) → self.new.spent ≡ true }
+        ensures stays_spent { self.old.spent ≡ true → result ≡ Err (SealFault.NoMemory) }
+    {
+        if self.is_spent {
+            return Err(SealFault::NoMemory);
+        }
+        match sign(&mut self.parts, s) {
+            Ok(envelope) => Ok(envelope),
+            Err(SealFault::Exhausted { seen }) => Err(SealFault::Exhausted { seen }),
+            Err(SealFault::NoMemory) => {
+                self.is_spent = true;
+                Err(SealFault::NoMemory)
+            }
+        }
+    }
+
+    /// An equal server, whose key has leaves of its own. As long as both are called alike, both sign the same statements at the same leaves, and so
+    /// answer with the same bytes.
+    pub fn twin(&self) -> Result<ServerCore, NoMemory>
+        ensures twin { IfOk result (λ c. c ≡ self.now) }
+        ensures stays_spent { self.now.spent ≡ true → IsErr result }
+    {
+        if self.is_spent {
+            return Err(NoMemory);
+        }
+        Ok(ServerCore {
+            parts: self.parts.twin()?,
+            is_spent: false,
+        })
     }
 
     /// Sets the place whose bit the next sum changes, if the round has it; `None` sets none.

@@ -1,12 +1,36 @@
-use Rattle.dn_server.specs.Parts.{live}
-use Rattle.dn_exchange.proofs.FirstSound.{opens_sound}
-use Rattle.dn_exchange.proofs.CallsOpen.{opens_open}
+use Rattle.std.proofs.Common.{◌∙◌, sym, ap}
+use Rattle.dn_server.specs.Parts.{live, view_of}
+use Rattle.dn_server.specs.Server.{ServerView}
+use Rattle.dn_exchange.proofs.CallsWhole.{opens_whole, whole_disciplined, whole_settled}
+use Rattle.dn_exchange.proofs.SeatStays.{opens_seat, opens_bent}
 use Rattle.dn_exchange.proofs.server_core.ServerCore.open_round.Goals as goal
 
 pub invariant_of-self-2 : goal.invariant_of-self-2
 invariant_of-self-2 c = λ e.
     let v = live c.self.inside.parts in
     let w = live c.open_round.new.parts in
-    let was = c.self.invariant c.if-self.false in
-    let did = c.in_ok-answer.ensures in
-    (opens_sound v c.args.r c.in_ok-answer.answer w was.0 did.opens did.few, opens_open v c.args.r c.in_ok-answer.answer w did.opens was.1)
+    opens_whole v (c.self.invariant c.if-self.false) c.args.r c.in_ok-answer.answer w c.in_ok-answer.ensures.opens c.in_ok-answer.ensures.few
+
+pub returns-clause-seat : goal.returns-clause-seat
+returns-clause-seat c =
+    let v = live c.self.inside.parts in
+    let w = live c.open_round.new.parts in
+    opens_seat v c.args.r c.in_ok-answer.answer w c.in_ok-answer.ensures.opens ∙ ap (λ (x : ServerView). x.seat) (ap (view_of c.self.inside.parts) (sym c.if-self.false) ∙ c.self.view_is)
+
+pub returns-clause-bent : goal.returns-clause-bent
+returns-clause-bent c =
+    let v = live c.self.inside.parts in
+    let w = live c.open_round.new.parts in
+    opens_bent v c.args.r c.in_ok-answer.answer w c.in_ok-answer.ensures.opens ∙ ap (λ (x : ServerView). x.bent) (ap (view_of c.self.inside.parts) (sym c.if-self.false) ∙ c.self.view_is)
+
+pub returns-clause-disciplined : goal.returns-clause-disciplined
+returns-clause-disciplined c = λ b.
+    let v = live c.self.inside.parts in
+    let w = live c.open_round.new.parts in
+    whole_disciplined w (opens_whole v (c.self.invariant c.if-self.false) c.args.r c.in_ok-answer.answer w c.in_ok-answer.ensures.opens c.in_ok-answer.ensures.few) b
+
+pub returns-clause-settled : goal.returns-clause-settled
+returns-clause-settled c = λ b runs.
+    let v = live c.self.inside.parts in
+    let w = live c.open_round.new.parts in
+    whole_settled w (opens_whole v (c.self.invariant c.if-self.false) c.args.r c.in_ok-answer.answer w c.in_ok-answer.ensures.opens c.in_ok-answer.ensures.few) b runs
