@@ -176,6 +176,23 @@ print(f"a verdict on 65,536 envelopes: {one:.3f} s; on twice as many {ratio:.2f}
 sys.exit(not holds)
 END
 
+# The notary: how many times as long 1,024 entries take as making 33 trees and 2,048 signatures.
+python3 - "$bench" <<'END' || broken=1
+import subprocess, sys
+rows = []
+for _ in range(7):
+    done = subprocess.run([sys.argv[1], "notary", "7", "1024"], capture_output=True, text=True, check=True)
+    rows.append((done.stdout, float(done.stderr.split()[1]), float(done.stderr.split()[3])))
+if len({text for text, _, _ in rows}) != 1:
+    sys.exit("the notary: two outputs")
+notary, parts = min(row[1] for row in rows), min(row[2] for row in rows)
+ratio = round(notary / parts, 2)
+holds = ratio <= 1.2
+print(f"the notary of 1,024 entries: {notary:.3f} s, {ratio:.2f} times as long as 33 trees and 2,048 signatures, "
+      f"at most 1.2: {'holds' if holds else 'BROKEN'}")
+sys.exit(not holds)
+END
+
 # A server's sum: how many times as long four workers take as one, where there are four processors.
 python3 - "$bench" <<'END' || broken=1
 import os, subprocess, sys

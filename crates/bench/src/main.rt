@@ -7,6 +7,7 @@
 mod deal;
 mod flight;
 mod lms;
+mod notary;
 mod pads;
 mod records;
 mod sums;
@@ -82,6 +83,7 @@ fn measure(
             number(words, 2)?,
             number(words, 3)?,
         ),
+        "notary" => notary::line(rt, alloc, number(words, 1)?, number(words, 2)?),
         "deal" => deal::line(alloc, group(words)?),
         "flight" => flight::line(rt, alloc, number(words, 1)?, number(words, 2)?),
         "sum" => sums::line(

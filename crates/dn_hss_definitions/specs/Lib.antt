@@ -1,0 +1,2 @@
+pub mod Hss
+pub mod Signed

@@ -1,0 +1,6 @@
+pub mod Entries
+pub mod Listing
+pub mod Signed
+pub mod Notarized
+pub mod Judging
+pub mod Tasks
