@@ -1,0 +1,9 @@
+pub mod Totals
+pub mod ShareLemmas
+pub mod GatherLemmas
+pub mod OrderLemmas
+pub mod TimeLemmas
+pub mod EachLemmas
+pub mod LiveLemmas
+pub mod WorkerLemmas
+pub mod MeetLemmas

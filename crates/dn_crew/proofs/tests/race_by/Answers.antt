@@ -1,0 +1,7 @@
+use Rattle.std.proofs.Common.{ap, ◌∙◌, length}
+use Rattle.dn_crew.specs.Race.{numbers_of}
+use Rattle.dn_crew.proofs.OrderLemmas.{counts_up}
+use Rattle.dn_crew.proofs.tests.race_by.Goals as goal
+
+pub race-requires-clause-differ : goal.race-requires-clause-differ
+race-requires-clause-differ g c = counts_up c.deref.result.now (length c.args.clients.now) (ap numbers_of c.deref.ensures.value ∙ c.in_ok-list.ensures.numbers)

@@ -1,0 +1,5 @@
+pub mod Race
+pub mod Shares
+pub mod Given
+pub mod Live
+pub mod Workers
