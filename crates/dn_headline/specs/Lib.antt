@@ -1,0 +1,17 @@
+pub mod Group
+pub mod Log
+pub mod Run
+pub mod Spoken
+pub mod Signatures
+pub mod Certified
+pub mod Strings
+pub mod Plains
+pub mod Clean
+pub mod Audit
+pub mod Submissions
+pub mod Delivered
+pub mod Heard
+pub mod Verdict
+pub mod Headline
+pub mod Invariant
+pub mod Step

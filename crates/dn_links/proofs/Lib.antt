@@ -1,0 +1,14 @@
+pub mod Entries
+pub mod Linking
+pub mod Going
+pub mod Moving
+pub mod Listings
+pub mod Settling
+pub mod Calling
+pub mod Rounds
+pub mod ClientPlains
+pub mod Clients
+pub mod Messages
+pub mod Judges
+pub mod Calls
+pub mod BeginningLinks
