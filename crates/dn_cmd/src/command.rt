@@ -8,6 +8,7 @@ use crate::generating::gen_script;
 use crate::running::run;
 use dn_io::{Sink, Source, Status};
 use dn_lines::number;
+use dn_notary::{notarized, notary};
 use dn_verify::verify_report;
 use std::alloc::Global;
 use std::sync::Wait;
@@ -24,6 +25,10 @@ pub enum Command {
     Check,
     /// Write the large script of this number.
     Gen(u64),
+    /// Sign a list of entries with the key of the notary of this number.
+    Notary(u64),
+    /// Judge a signed list of entries, and write how many it has, where it is accepted.
+    Notarized,
 }
 
 /// The command that the words are, if they are one.
@@ -38,6 +43,8 @@ fn read_command(words: &[String]) -> Option<Command>
                 Some(Command::Verify)
             } else if word.as_str() == "check" {
                 Some(Command::Check)
+            } else if word.as_str() == "notarized" {
+                Some(Command::Notarized)
             } else {
                 None
             }
@@ -45,6 +52,8 @@ fn read_command(words: &[String]) -> Option<Command>
         [word, text] => {
             if word.as_str() == "gen" {
                 Some(Command::Gen(number(0, u64::MAX, text.as_bytes())?))
+            } else if word.as_str() == "notary" {
+                Some(Command::Notary(number(0, u64::MAX, text.as_bytes())?))
             } else {
                 None
             }
@@ -53,8 +62,8 @@ fn read_command(words: &[String]) -> Option<Command>
     }
 }
 
-/// Runs the command that the words are, from the input to the output. It takes the runtime for the
-/// work that later commands share among threads.
+/// Runs the command that the words are, from the input to the output. It takes the runtime for the work that a run of a group shares
+/// among threads.
 pub fn dissent<R: Threads + Wait + Sync, S: Source, K: Sink>(
     rt: &R,
     alloc: Global,
@@ -81,12 +90,13 @@ pub fn dissent<R: Threads + Wait + Sync, S: Source, K: Sink>(
         → IfSome (command_of (map string_bytes words.now)) (λ command.
         IfSome (S.left input.old) (λ text. IsAnswer command text result ⊎ (result ≡ Status.NoMemory))) }
 {
-    let _ = rt;
     match read_command(words) {
-        Some(Command::Run) => run(alloc, input, output),
+        Some(Command::Run) => run(rt, alloc, input, output),
         Some(Command::Verify) => verify_report(alloc, input, output),
         Some(Command::Check) => check_script(alloc, input, output),
         Some(Command::Gen(num)) => gen_script(alloc, num, output),
+        Some(Command::Notary(num)) => notary(alloc, num, input, output),
+        Some(Command::Notarized) => notarized(alloc, input, output),
         None => Status::Usage,
     }
 }

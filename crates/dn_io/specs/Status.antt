@@ -14,7 +14,7 @@ use Rattle.dn_io.specs.Rule.{rule_text}
 unfoldable pub status_text : Status → List ℕ
 status_text Ok = []
 status_text (NotAccepted line rule) = codes "dissent: line " ++ (decimal line ++ (codes ": not accepted (" ++ (rule_text rule ++ codes ")")))
-status_text Usage = codes "usage: dissent run | verify | check | gen NUM | demo NUM"
+status_text Usage = codes "usage: dissent run | verify | check | gen NUM | demo NUM | complaints | epochs | texts | notary NUM | notarized"
 status_text ReadFault = codes "dissent: read fault"
 status_text WriteFault = codes "dissent: write fault"
 status_text (BadLine number cause) = codes "dissent: line " ++ (decimal number ++ (codes ": " ++ cause_text cause))

@@ -23,8 +23,8 @@ fn is_plain_byte(byte: u8) -> bool
     byte == b'\t' || (32 <= byte && byte <= 126)
 }
 
-/// Whether all bytes are such.
-fn is_plain_text(line: &[u8]) -> bool
+/// Whether all bytes of a line are tabs or characters from the blank to the tilde.
+pub fn is_plain_text(line: &[u8]) -> bool
     ensures { result ≡ list_all is_plain_byte line.now }
 {
     for b in line {
@@ -69,7 +69,8 @@ fn counted_line(
     reading.line(alloc, word, words)
 }
 
-fn is_comment(word: &[u8]) -> bool
+/// Whether a line with this first word is a comment.
+pub fn is_comment(word: &[u8]) -> bool
     ensures { result ≡ slice_index word.now 0 == 35 }
 {
     match word {
@@ -134,7 +135,7 @@ fn take_line(
 }
 
 /// The line without the carriage return before its end.
-fn without_return(line: &[u8]) -> &[u8]
+pub fn without_return(line: &[u8]) -> &[u8]
     ensures { result.now ≡ without_return line.now }
 {
     let len = line.len();

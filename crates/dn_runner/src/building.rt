@@ -1,0 +1,85 @@
+// The group of a script, and which scripts can be run so far.
+ghost use Rattle.std.specs.Prelude.{◌≡◌, IfSome};
+ghost use Rattle.dn_roster.specs.Group.{IsWithinLimits};
+ghost use Rattle.dn_runner.specs.Play.{group_of};
+
+use dn_roster::GroupSpec;
+use dn_script::{Script, ScriptLine};
+
+/// Whether the line is one that is run: no member is corrupt, and no threads are asked for.
+fn is_run(line: &ScriptLine) -> bool {
+    matches!(
+        line,
+        ScriptLine::Group { .. }
+            | ScriptLine::Say { .. }
+            | ScriptLine::Open { .. }
+            | ScriptLine::Close { .. }
+            | ScriptLine::Abandon { .. }
+            | ScriptLine::Submit { .. }
+            | ScriptLine::Deliver { .. }
+            | ScriptLine::Lose { .. }
+            | ScriptLine::Cut { .. }
+            | ScriptLine::Flow { .. }
+            | ScriptLine::Tick { .. }
+            | ScriptLine::Leave { .. }
+            | ScriptLine::Accuse { .. }
+            | ScriptLine::Judge { .. }
+            | ScriptLine::End
+    )
+}
+
+/// Whether all lines are run.
+pub fn are_run(script: &Script) -> bool {
+    script.lines().iter().all(|line| is_run(&line.1))
+}
+
+fn within_limits(group: GroupSpec) -> Option<GroupSpec>
+    ensures limits { IfSome result IsWithinLimits }
+    ensures same { IfSome result (λ g. g ≡ group) }
+{
+    if group.version < 1 || 2 < group.version {
+        return None;
+    }
+    if group.clients < 1 || 512 < group.clients || group.servers < 1 || 16 < group.servers {
+        return None;
+    }
+    if group.ots < 1 || 4 < group.ots {
+        return None;
+    }
+    if group.client_lms < 5
+        || 6 < group.client_lms
+        || group.server_lms < 5
+        || 7 < group.server_lms
+    {
+        return None;
+    }
+    Some(group)
+}
+
+/// The group of a script's first line.
+pub fn group_of(script: &Script) -> Option<GroupSpec>
+    ensures limits { IfSome result IsWithinLimits }
+    ensures group { IfSome result (λ group. group_of script.now ≡ Some group) }
+{
+    let (_, line) = script.lines().first()?;
+    match line {
+        ScriptLine::Group {
+            version,
+            clients,
+            servers,
+            ots,
+            client_lms,
+            server_lms,
+            seed,
+        } => within_limits(GroupSpec {
+            version: *version,
+            clients: *clients,
+            servers: *servers,
+            ots: *ots,
+            client_lms: *client_lms,
+            server_lms: *server_lms,
+            seed: *seed,
+        }),
+        _ => None,
+    }
+}

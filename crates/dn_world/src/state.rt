@@ -1,0 +1,47 @@
+use dn_audit::{Auditor, Group};
+use dn_cert::Chain;
+use dn_client::Client;
+use dn_exchange::ServerCore;
+use dn_flight::Flight;
+use dn_payloads::Payloads;
+use dn_seal::Said;
+use std::alloc::Global;
+use std::collections::{BTreeMap, BTreeSet};
+use std::marker::Model;
+
+/// What a world is made of, but for its history.
+#[derive(Drop)]
+pub struct State {
+    pub alloc: Global,
+    pub group: Group,
+    /// The honest clients, by number.
+    pub clients: Vec<Option<Client>>,
+    /// The honest servers, by number.
+    pub servers: Vec<Option<ServerCore>>,
+    /// Whether each client has left.
+    pub left: Vec<bool>,
+    pub payloads: Payloads,
+    pub flight: Flight,
+    /// The run's certificates: each that was put and could follow.
+    pub chain: Chain,
+    /// The rounds whose lines were told.
+    pub told: BTreeSet<u64>,
+    /// What was said: by servers, in what was put; by clients and slots, in what reached a server.
+    pub heard: Vec<Said>,
+    /// The payloads that reached a server.
+    pub delivered: BTreeSet<u64>,
+    /// The place of the last accusation of each round that was put.
+    pub accused: BTreeMap<u64, u32>,
+    pub auditor: Auditor,
+}
+
+impl Model for State {
+    ghost use Rattle.dn_roster.specs.Roster.{RosterView};
+    ghost use Rattle.dn_world.specs.Sound.{IsSound};
+
+    ghost Value = { RosterView };
+
+    ghost view = { λ s. s.payloads.roster };
+
+    ghost invariant = { λ s. IsSound s.payloads.roster s.servers.items s.heard.items };
+}
