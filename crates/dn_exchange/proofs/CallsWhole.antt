@@ -19,11 +19,13 @@ use Rattle.dn_exchange.specs.Making.{IsGroup, first_server}
 use Rattle.dn_exchange.specs.Opening.{Opens, IsSmall}
 use Rattle.dn_exchange.specs.Settled.{Settled}
 use Rattle.dn_exchange.specs.Signing.{SignsNext}
+use Rattle.dn_exchange.specs.Spoiling.{TellsDueBodies}
 use Rattle.dn_exchange.specs.Submitting.{TakesSubmission}
 use Rattle.dn_exchange.specs.Whole.{IsWhole}
 use Rattle.dn_exchange.proofs.CallsOpen.{first_open, opens_open, submits_open, abandons_open, holds_open, bent_by as bent_open_by}
 use Rattle.dn_exchange.proofs.CallsSound.{ticks_sound, shuts_sound}
 use Rattle.dn_exchange.proofs.ClaimSound.{takes_sound}
+use Rattle.dn_exchange.proofs.DueBodies.{ticks_tell, shuts_tell, hears_tell}
 use Rattle.dn_exchange.proofs.EndSound.{abandons_sound, bent_by}
 use Rattle.dn_exchange.proofs.FirstHonest.{first_true}
 use Rattle.dn_exchange.proofs.FirstSound.{opens_sound}
@@ -41,6 +43,19 @@ whole_disciplined v is b = disciplined v (is.straight b).honest is.sound
 
 pub whole_settled : (v : ServerView) → IsWhole v → v.bent ≡ false → v.run.is_running ≡ true → Settled v
 whole_settled v is b runs = settled v (is.straight b) is.sound runs
+
+-- ---- what it tells
+
+pub ticks_due : (v : ServerView) → IsWhole v → (a : Answer) (w : ServerView) → Ticks v a w → w.bent ≡ false → TellsDueBodies w a
+ticks_due v is a w did b = let was : v.bent ≡ false = sym (ticks_bent v a w did) ∙ b in ticks_tell v a w is.sound was (is.straight was).honest did
+
+pub shuts_due : (v : ServerView) → IsWhole v → (a : Answer) (w : ServerView) → Shuts v a w → w.bent ≡ false → TellsDueBodies w a
+shuts_due v is a w did b = let was : v.bent ≡ false = sym (shuts_bent v a w did) ∙ b in shuts_tell v a w is.sound was (is.straight was).honest did
+
+pub hears_due : (v : ServerView) → IsWhole v → (said : SaidView) (a : Answer) (w : ServerView) → IsSaid said → IsUnder v.seat.roster said → Hears v said a w → w.bent ≡ false
+    → TellsDueBodies w a
+hears_due v is said a w at under did b =
+    let was : v.bent ≡ false = sym (hears_bent v said a w did) ∙ b in hears_tell v said a w is.sound was (is.straight was).honest at under did
 
 -- ---- its calls
 

@@ -69,5 +69,6 @@ module _ (v : ServerView) (sound : IsSound v) (j : ℕ) (y : SaidView) (round : 
 pub can_hear : (p : Parts) (j : ℕ) (y : SaidView) → IsSound (live p) → round_of y.statement ≡ Some p.run.r → IsSaid y → IsUnder p.identity.roster y → CanHear p j y
 can_hear p j y sound round said under = record {
   round = sound.round;
+  claims = sound.are_claims;
   steady = λ runs none fine. steady (in_kept p y) (kept_sound (live p) sound j y round said under fine);
 }

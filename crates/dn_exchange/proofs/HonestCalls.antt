@@ -181,7 +181,7 @@ module _ (v : ServerView) (h : IsHonest v) (j : ℕ) (y : SaidView) (by : y.sign
         ]
       ]
 
-  kept_honest : v.run.is_running ≡ true → IsFaultless v j y.statement → IsHonest (with_kept v y)
+  pub kept_honest : v.run.is_running ≡ true → IsFaultless v j y.statement → IsHonest (with_kept v y)
   kept_honest runs fine =
       honest_on v v.chain (v.run.kept ++ y ∷ []) v.run.window v.run.is_running v.aside (same_chain v.chain h.chain) (keeps_push v.run.kept y) h one_more (λ on. fits_still runs fine) h.listed h.set_aside
 

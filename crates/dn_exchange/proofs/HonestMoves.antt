@@ -57,10 +57,10 @@ module _ (v : ServerView) (chain : ChainView) (kept : List SaidView) (window : W
     said_on : (s : Statement) → HasSaid v s → HasSaid moved s
     said_on s h = record { signed = h.signed; kept = grown.stays (kind_byte s) v.seat.number s h.kept }
 
-    included_on : (s : Statement) (c : List Bool) → WasIncluded v.run s c → WasIncluded moved.run s c
+    pub included_on : (s : Statement) (c : List Bool) → WasIncluded v.run s c → WasIncluded moved.run s c
     included_on s c h = record { client = h.client; claim = h.claim; claimed = h.claimed; told = h.told; is = h.is; cipher = h.cipher }
 
-    says_on : (who : SignerId) (s : Statement) → IsSaidBy v who s → IsSaidBy moved who s
+    pub says_on : (who : SignerId) (s : Statement) → IsSaidBy v who s → IsSaidBy moved who s
     says_on who s (inl own) = inl own
     says_on who s (inr other) = inr (other.0, (other.1.0, grown.there other.1.0 other.1.1, other.1.2, other.1.3))
 

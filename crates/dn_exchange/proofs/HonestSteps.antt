@@ -411,6 +411,16 @@ module _ (v : ServerView) (h : IsHonest v) (sound : IsSound v) (runs : v.run.is_
           found = λ r past e. find_stays (λ p. p.body.r.0 == r) v.pasts (past_with sum b) past e;
         })
 
+  thin_ready : v.run.stage ≡ stages.Listed → IsThinReady v
+  thin_ready stage = record {
+    before = run.course.before;
+    layout = run.course.layout;
+    after = run.course.after;
+    verify = run.inventories;
+    round = of_round;
+    own_inventory = own_signed (kinds.Inventory (inventory_of v.run)) (at stages.Listed stage).0;
+  }
+
   pub signs_thin_honest : (b : Body) → IsThinDue v b → IsUnopposed v b
       → IsHonest (spoke v h (kinds.Sign b) stages.Signed v.run.sum (next (kinds.Sign b)) (v.pasts ++ thin_past b ∷ []) None)
   signs_thin_honest b due un =
@@ -419,14 +429,7 @@ module _ (v : ServerView) (h : IsHonest v) (sound : IsSound v) (runs : v.run.is_
       let listed = at stages.Listed due.stage in
       let round : b.r ≡ v.run.r = ap (λ (x : Body). x.r) due.is in
       let thin : b.thin ≡ true = ap (λ (x : Body). x.thin) due.is in
-      let ready : IsThinReady v = record {
-        before = run.course.before;
-        layout = run.course.layout;
-        after = run.course.after;
-        verify = run.inventories;
-        round = of_round;
-        own_inventory = own_signed (kinds.Inventory (inventory_of v.run)) listed.0;
-      } in
+      let ready : IsThinReady v = thin_ready due.stage in
       spoke_honest v h s stages.Signed v.run.sum (next s) pasts None
       (record {
         straight = refl;
@@ -463,3 +466,11 @@ module _ (v : ServerView) (h : IsHonest v) (sound : IsSound v) (runs : v.run.is_
             ];
         found = λ r past e. find_stays (λ p. p.body.r.0 == r) v.pasts (thin_past b) past e;
       })
+
+  -- ---- a body that is due is justified, also where it isn't signed
+
+  pub body_justified : (sum : Sum) (b : Body) → IsBodyDue v sum b → Justified (IsSaidBy v) (WasIncluded v.run) v.seat v.chain b
+  body_justified sum b due = due_justified v sum b (ready sum b due) due
+
+  pub thin_body_justified : (b : Body) → IsThinDue v b → Justified (IsSaidBy v) (WasIncluded v.run) v.seat v.chain b
+  thin_body_justified b due = thin_justified v b (thin_ready due.stage) due

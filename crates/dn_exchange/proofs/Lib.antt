@@ -5,6 +5,7 @@ pub mod EndSound
 pub mod FirstSound
 pub mod ReadyLemmas
 pub mod ClaimSound
+pub mod ClaimedEntries
 pub mod OpeningStays
 pub mod HoldSound
 pub mod KeptSound
@@ -34,3 +35,5 @@ pub mod Promises
 pub mod FirstHonest
 pub mod CallsWhole
 pub mod TrimExists
+pub mod ChainStays
+pub mod DueBodies

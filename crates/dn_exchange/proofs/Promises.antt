@@ -159,7 +159,7 @@ module _ (v : ServerView) (h : IsHonest v) (s : IsSound v) where
 
   -- ---- what was signed of the last round
 
-  kept_of_round : (kind j : ℕ) (t : Statement) → statement_of v.run.kept kind j ≡ Some t → round_of t ≡ Some v.run.r
+  pub kept_of_round : (kind j : ℕ) (t : Statement) → statement_of v.run.kept kind j ≡ Some t → round_of t ≡ Some v.run.r
   kept_of_round kind j t e =
       let found = statement_said v.run.kept kind j t e in
       sym (ap round_of found.2) ∙ kept_round v.run.r v.run.kept kind j found.0 s.round found.1
@@ -205,7 +205,7 @@ module _ (v : ServerView) (h : IsHonest v) (s : IsSound v) where
   said_body stages.Revealed x t c round kind = absurd (x.2 t c round kind)
   said_body stages.Signed x t c round kind = (refl, x.1)
 
-  own_body : HasSaidThin v ⊎ HasSaidBody v → (b : Body) × HasSaid v (kinds.Sign b)
+  pub own_body : HasSaidThin v ⊎ HasSaidBody v → (b : Body) × HasSaid v (kinds.Sign b)
   own_body (inl x) = (x.body, x.said)
   own_body (inr x) = (x.body, x.said)
 

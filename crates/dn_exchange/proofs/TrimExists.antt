@@ -1,22 +1,20 @@
 -- The inventories of all servers make a list.
-use Rattle.std.proofs.Common.{◌≡◌, ℕ, Bool, true, false, List, [], ◌∷◌, ◌++◌, length, Some, refl, sym, ap, subst, ◌∙◌, inl, inr, append_assoc, append-nil}
-use Rattle.std.specs.Prelude.{All, Contains, ◌⊎◌, slice_get}
-use Rattle.std.proofs.lemmas.List.Elements.{All-head, All-tail, All-nil}
-use Rattle.dn_wire.specs.declared.ids.ClientId.{ClientId}
+use Rattle.std.proofs.Common.{◌≡◌, Bool, true, false, List, [], ◌∷◌, ◌++◌, length, refl, sym, subst, inl, inr, append_assoc, append-nil}
+use Rattle.std.specs.Prelude.{All, ◌⊎◌}
+use Rattle.std.proofs.lemmas.List.Elements.{All-head, All-tail}
 use Rattle.dn_record_types.specs.declared.body.Listed.{Listed}
 use Rattle.dn_record_types.specs.declared.inventory.Inventory.{Inventory}
 use Rattle.dn_record_types.specs.declared.statement.Statement.TheVariants as kinds
-use Rattle.dn_seal.specs.Said.{SaidView, IsSaid}
+use Rattle.dn_seal.specs.Said.{IsSaid}
 use Rattle.dn_cert.specs.Chain.{count_at}
 use Rattle.dn_cert.specs.Floor.{is_due_thin}
-use Rattle.dn_cert.specs.Trim.{IsInventory, IsTrim, IsOfLeast, IsNamed}
+use Rattle.dn_cert.specs.Trim.{IsInventory, IsTrim}
 use Rattle.dn_cert.proofs.Merging.{merged}
 use Rattle.dn_cert.proofs.TrimLemmas.{with_inventory_trims, no_inventory_trims}
 use Rattle.dn_server.specs.Server.{ServerView, servers_in, AreKept}
 use Rattle.dn_server.specs.Keeping.{HasAll}
 use Rattle.dn_server.proofs.KeptLemmas.{kept_kind}
 use Rattle.dn_server.proofs.Shapes.{inventory_shape}
-use Rattle.dn_rounds.specs.Going.{IsListing}
 use Rattle.dn_rounds.proofs.CommitLemmas.{inventories_fit}
 use Rattle.dn_rounds.proofs.StepLemmas.{all_kept}
 use Rattle.dn_exchange.specs.Settled.{IsWithData, IsWithoutData}

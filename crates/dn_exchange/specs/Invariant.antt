@@ -46,6 +46,10 @@ pub record IsClaim (seat : Seat) (r prev : Round) (bits i : ℕ) (claim : Claim)
 abbrev pub AreClaims : Seat → Run → Type 0
 AreClaims seat run = (i : ℕ) (claim : Claim) → slice_get run.claims i ≡ Some (Some claim) → IsClaim seat run.r run.prev run.bits i claim
 
+-- the entry is that of a claim
+abbrev pub IsOfClaim : Run → Entry → Type 0
+IsOfClaim run e = (claim : Claim) × (slice_get run.claims e.client.0 ≡ Some (Some claim)) × (claimed_entry e.client.0 claim ≡ e)
+
 -- Round r of a chain that doesn't hold it: it follows a round of the chain, and has the bits of the layout after that.
 pub record IsCourse (chain : ChainView) (r prev : Round) (bits : ℕ) : Type 0 where
   pub before : prev.0 < r.0

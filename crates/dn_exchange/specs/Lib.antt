@@ -13,3 +13,5 @@ pub mod Disciplined
 pub mod Honest
 pub mod Settled
 pub mod Whole
+pub mod Holding
+pub mod Spoiling

@@ -15,6 +15,7 @@ use Rattle.dn_server.specs.Server.{kept_of}
 use Rattle.dn_server.specs.Keeping.{AreOfRound}
 use Rattle.dn_exchange.specs.Closing.{inventory_of}
 use Rattle.dn_exchange.specs.Hearing.{IsFaultless}
+use Rattle.dn_exchange.specs.Invariant.{AreClaims}
 
 -- the parts with another window
 abbrev pub in_window : Parts → WindowState → Parts
@@ -35,9 +36,10 @@ CanClose p = p.run.window.closed ≡ false → (w : WindowState) → w.closed �
 abbrev pub in_kept : Parts → SaidView → Parts
 in_kept p said = record p { run = record p.run { kept = p.run.kept ++ said ∷ [] } }
 
--- The server can hear this statement that server j made of the round: all that is kept is of the round, and where nothing of the kind is kept
--- of that server and the statement has no fault, it can go on with it.
+-- The server can hear this statement that server j made of the round: all that is kept is of the round, its claims hold, and where nothing of the
+-- kind is kept of that server and the statement has no fault, it can go on with it.
 pub record CanHear (p : Parts) (j : ℕ) (said : SaidView) : Type 0 where
   pub round : AreOfRound p.run.r p.run.kept
+  pub claims : AreClaims (live p).seat (live p).run
   pub steady : p.run.is_running ≡ true → kept_of p.run.kept (kind_byte said.statement) j ≡ None → IsFaultless (live p) j said.statement
       → IsSteady (in_kept p said)

@@ -10,14 +10,16 @@ ghost use Rattle.dn_records.specs.Records.{body_bytes, kind_byte, IsBody};
 ghost use Rattle.dn_rounds.specs.Going.{spoiled_twice};
 ghost use Rattle.dn_server.specs.Server.{ended};
 ghost use Rattle.dn_server.specs.Keeping.{AreOfRound, byte_for, round_of};
+ghost use Rattle.dn_cert.specs.Signed.{EntryVerifies};
 ghost use Rattle.dn_exchange.specs.Hearing.{number_bytes, IsFirstFalse, IsOwnCommitted, FaultFound, DiffersFrom, AllVerify, KeepsHeard, HearsRound};
+ghost use Rattle.dn_exchange.specs.Invariant.{AreClaims, IsOfClaim};
 ghost use Rattle.dn_exchange.specs.Ready.{CanHear};
 
 use dn_bits::Bits;
 use dn_cert::entry_verifies;
 use dn_hash::server_digest;
 use dn_memory::NoMemory;
-use dn_records::{Body, Inventory, Statement, encode, encode_body};
+use dn_records::{Body, Entry, Inventory, Statement, encode, encode_body};
 use dn_rounds::{body_by, digest_by, go_on, string_by};
 use dn_seal::Said;
 use dn_server::{Act, Acts, Answer, Parts, Reason, RoundKind, Run, SpoilReason, Stage, spoil};
@@ -51,19 +53,40 @@ fn numbers(alloc: Global, reason: SpoilReason, kept: u64, came: u64) -> Result<F
     })
 }
 
-/// The place of the first entry of an inventory that doesn't verify.
+/// Whether an entry is that of a claim.
+fn is_of_claim(run: &Run, entry: &Entry) -> bool
+    ensures { IsTrue result → IsOfClaim run.now entry.now }
+{
+    match run.claims.get(entry.client) {
+        Some(claim) => claim.digest == entry.digest && claim.signature.equals(&entry.signature),
+        None => false,
+    }
+}
+
+/// Whether an entry of an inventory of the round verifies. The signatures of claims were verified as they came, and aren't again.
+fn verifies(parts: &Parts, inventory: &Inventory, entry: &Entry) -> Result<bool, NoMemory>
+    requires round { inventory.now.r ≡ parts.now.run.r }
+    requires prev { inventory.now.prev ≡ parts.now.run.prev }
+    requires claims { AreClaims (live parts.now).seat (live parts.now).run }
+    ensures { IfOk result (λ b. IsTrue b ↔ EntryVerifies parts.now.identity.roster inventory.now.r inventory.now.prev entry.now) }
+{
+    if is_of_claim(&parts.run, entry) {
+        return Ok(true);
+    }
+    let roster = parts.identity.roster();
+    entry_verifies(parts.alloc, roster, inventory.r, inventory.prev, entry)
+}
+
+/// The place of the first entry of an inventory of the round that doesn't verify.
 fn first_false(parts: &Parts, inventory: &Inventory) -> Result<Option<u32>, NoMemory>
-    requires { length inventory.now.entries ≤ 512 }
+    requires few { length inventory.now.entries ≤ 512 }
+    requires round { inventory.now.r ≡ parts.now.run.r }
+    requires prev { inventory.now.prev ≡ parts.now.run.prev }
+    requires claims { AreClaims (live parts.now).seat (live parts.now).run }
     ensures { IfOk result (λ o. MatchOption o (AllVerify (live parts.now) inventory.now) (λ at. IsFirstFalse (live parts.now) inventory.now at)) }
 {
     for (at, entry) in inventory.entries.get().iter().enumerate() {
-        if !entry_verifies(
-            parts.alloc,
-            parts.identity.roster(),
-            inventory.r,
-            inventory.prev,
-            entry,
-        )? {
+        if !verifies(parts, inventory, entry)? {
             return Ok(Some(at as u32));
         }
     }
@@ -76,7 +99,9 @@ fn inventory_fault(
     j: ServerId,
     inventory: &Inventory,
 ) -> Result<Option<Found>, NoMemory>
-    requires { length inventory.now.entries ≤ 512 }
+    requires few { length inventory.now.entries ≤ 512 }
+    requires round { inventory.now.r ≡ parts.now.run.r }
+    requires claims { AreClaims (live parts.now).seat (live parts.now).run }
     ensures { IfOk result (FaultFound (live parts.now) j.0 (kinds.Inventory inventory.now)) }
 {
     let alloc = parts.alloc;
@@ -205,7 +230,9 @@ fn sign_fault(parts: &Parts, j: ServerId, body: &Body) -> Result<Option<Found>, 
 /// The fault of a statement that server `j` made of round `r`.
 fn fault(parts: &Parts, j: ServerId, _r: Round, said: &Said) -> Result<Option<Found>, NoMemory>
     requires round { AreOfRound _r parts.now.run.kept }
+    requires runs { _r ≡ parts.now.run.r }
     requires same { round_of said.now.statement ≡ Some _r }
+    requires claims { AreClaims (live parts.now).seat (live parts.now).run }
     ensures { IfOk result (FaultFound (live parts.now) j.0 said.now.statement) }
 {
     match said.statement() {

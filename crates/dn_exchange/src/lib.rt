@@ -15,5 +15,5 @@ mod server_core;
 mod signing;
 mod submitting;
 
-pub use laws::seats_stay;
+pub use laws::{chains_stay, seats_stay};
 pub use server_core::ServerCore;

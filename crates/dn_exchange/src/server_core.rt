@@ -1,5 +1,6 @@
 // The calls of a server.
 ghost use Rattle.std.specs.Prelude.{◌≡◌, ◌≤◌, ◌<◌, ◌+◌, ◌++◌, ◌∷◌, [], not, true, false, length, Some, None, IsErr, IfOk, IfErr, MatchOption, OnOk, OnErr, Err, IsTrue, ◌↔◌, option_map, ℕ};
+ghost use Rattle.dn_lms_definitions.specs.Key.{leaf_count};
 ghost use Rattle.dn_seal.specs.Said.{IsUnder};
 ghost use Rattle.dn_seal.specs.Signer.{CanSign};
 ghost use Rattle.dn_cert.specs.Certificate.{IsCertificateUnder};
@@ -14,6 +15,7 @@ ghost use Rattle.dn_exchange.specs.Making.{first_server};
 ghost use Rattle.dn_exchange.specs.Signing.{SignsNext, SignsNothing};
 ghost use Rattle.dn_exchange.specs.Disciplined.{Disciplined};
 ghost use Rattle.dn_exchange.specs.Settled.{Settled};
+ghost use Rattle.dn_exchange.specs.Spoiling.{TellsDueBodies};
 ghost use Rattle.dn_exchange.specs.Invariant.{HasClaim};
 
 use crate::closing::{close, tick};
@@ -124,6 +126,7 @@ impl ServerCore {
         ensures bent { OnOk result (self.new.bent ≡ self.old.bent) }
         ensures disciplined { OnOk result (self.new.bent ≡ false → Disciplined self.new) }
         ensures settled { OnOk result (self.new.bent ≡ false → self.new.run.is_running ≡ true → Settled self.new) }
+        ensures bodies { IfOk result (λ a. self.new.bent ≡ false → TellsDueBodies self.new a) }
     {
         if self.is_spent {
             return Err(NoMemory);
@@ -143,6 +146,7 @@ impl ServerCore {
         ensures bent { OnOk result (self.new.bent ≡ self.old.bent) }
         ensures disciplined { OnOk result (self.new.bent ≡ false → Disciplined self.new) }
         ensures settled { OnOk result (self.new.bent ≡ false → self.new.run.is_running ≡ true → Settled self.new) }
+        ensures bodies { IfOk result (λ a. self.new.bent ≡ false → TellsDueBodies self.new a) }
     {
         if self.is_spent {
             return Err(NoMemory);
@@ -169,6 +173,7 @@ impl ServerCore {
         ensures bent { OnOk result (self.new.bent ≡ self.old.bent) }
         ensures disciplined { OnOk result (self.new.bent ≡ false → Disciplined self.new) }
         ensures settled { OnOk result (self.new.bent ≡ false → self.new.run.is_running ≡ true → Settled self.new) }
+        ensures bodies { IfOk result (λ a. self.new.bent ≡ false → TellsDueBodies self.new a) }
     {
         if self.is_spent {
             return Err(NoMemory);
@@ -261,6 +266,13 @@ impl ServerCore {
             Some(sum) => Some(&sum.s),
             None => None,
         }
+    }
+
+    /// The number of leaves at which the server's key has signed nothing yet.
+    pub fn left(&self) -> u32
+        ensures { result + length self.now.signed ≡ leaf_count self.now.key }
+    {
+        self.parts.identity.left()
     }
 
     /// Whether client `i` has a claim in the round that was opened last.

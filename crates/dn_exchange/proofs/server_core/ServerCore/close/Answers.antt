@@ -3,7 +3,7 @@ use Rattle.dn_server.specs.Parts.{live, view_of}
 use Rattle.dn_server.specs.Server.{ServerView}
 use Rattle.dn_exchange.specs.Closing.{Shuts}
 use Rattle.dn_exchange.proofs.CloseSound.{can_close}
-use Rattle.dn_exchange.proofs.CallsWhole.{shuts_whole, whole_disciplined, whole_settled}
+use Rattle.dn_exchange.proofs.CallsWhole.{shuts_due, shuts_whole, whole_disciplined, whole_settled}
 use Rattle.dn_exchange.proofs.SeatStays.{shuts_seat, shuts_bent}
 use Rattle.dn_exchange.proofs.server_core.ServerCore.close.Goals as goal
 
@@ -43,3 +43,9 @@ returns-clause-settled g c = λ b runs.
     let v = live c.self.inside.parts in
     let w = live c.close.new.parts in
     whole_settled w (shuts_whole v (c.self.invariant c.if-self.false) c.in_ok-answer.answer w c.in_ok-answer.ensures) b runs
+
+pub returns-clause-bodies : goal.returns-clause-bodies
+returns-clause-bodies g c = λ b.
+    let v = live c.self.inside.parts in
+    let w = live c.close.new.parts in
+    shuts_due v (c.self.invariant c.if-self.false) c.in_ok-answer.answer w c.in_ok-answer.ensures b

@@ -4,7 +4,7 @@ use Rattle.dn_server.specs.Parts.{live, view_of}
 use Rattle.dn_server.specs.Server.{ServerView}
 use Rattle.dn_exchange.specs.Listening.{Hears}
 use Rattle.dn_exchange.proofs.HearSound.{can_hear}
-use Rattle.dn_exchange.proofs.CallsWhole.{hears_whole, whole_disciplined, whole_settled}
+use Rattle.dn_exchange.proofs.CallsWhole.{hears_due, hears_whole, whole_disciplined, whole_settled}
 use Rattle.dn_exchange.proofs.SeatStays.{hears_seat, hears_bent}
 use Rattle.dn_exchange.proofs.server_core.ServerCore.hear.Goals as goal
 
@@ -51,3 +51,10 @@ returns-clause-settled g c = λ b runs.
     let w = live c.hear.new.parts in
     let under = subst (λ (x : ServerView). IsUnder x.seat.roster c.args.said.now) (sym c.self.view_is) c.requires in
     whole_settled w (hears_whole v (c.self.invariant c.if-self.false) c.args.said.now c.in_ok-answer.answer w c.in_ok-answer.ensures.said under c.in_ok-answer.ensures.heard) b runs
+
+pub returns-clause-bodies : goal.returns-clause-bodies
+returns-clause-bodies g c = λ b.
+    let v = live c.self.inside.parts in
+    let w = live c.hear.new.parts in
+    let under = subst (λ (x : ServerView). IsUnder x.seat.roster c.args.said.now) (sym c.self.view_is) c.requires in
+    hears_due v (c.self.invariant c.if-self.false) c.args.said.now c.in_ok-answer.answer w c.in_ok-answer.ensures.said under c.in_ok-answer.ensures.heard b

@@ -3,7 +3,7 @@ use Rattle.dn_server.specs.Parts.{live, view_of}
 use Rattle.dn_server.specs.Server.{ServerView}
 use Rattle.dn_exchange.specs.Closing.{Ticks}
 use Rattle.dn_exchange.proofs.CloseSound.{can_close}
-use Rattle.dn_exchange.proofs.CallsWhole.{ticks_whole, whole_disciplined, whole_settled}
+use Rattle.dn_exchange.proofs.CallsWhole.{ticks_due, ticks_whole, whole_disciplined, whole_settled}
 use Rattle.dn_exchange.proofs.SeatStays.{ticks_seat, ticks_bent}
 use Rattle.dn_exchange.proofs.server_core.ServerCore.tick.Goals as goal
 
@@ -43,3 +43,9 @@ returns-clause-settled g c = λ b runs.
     let v = live c.self.inside.parts in
     let w = live c.tick.new.parts in
     whole_settled w (ticks_whole v (c.self.invariant c.if-self.false) c.in_ok-answer.answer w c.in_ok-answer.ensures) b runs
+
+pub returns-clause-bodies : goal.returns-clause-bodies
+returns-clause-bodies g c = λ b.
+    let v = live c.self.inside.parts in
+    let w = live c.tick.new.parts in
+    ticks_due v (c.self.invariant c.if-self.false) c.in_ok-answer.answer w c.in_ok-answer.ensures b
