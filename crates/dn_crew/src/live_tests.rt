@@ -125,8 +125,8 @@ fn two_servers_of_a_live_run_wait_for_each_other(rt: HostRuntime) -> Result<(), 
     assert_eq!(rt; hold.missed.load(SeqCst), 0);
     assert_eq!(rt; (first, posts.get().len()), (2, 24));
     assert_eq!(rt; too_far(posts.get()), 0);
-    // Each has the other's inventory from entry 0, and commits.
-    assert_eq!(rt; second(posts.get(), 0).ok_or("12 posts")?.len(), 1);
-    assert_eq!(rt; second(posts.get(), 1).ok_or("12 posts")?.len(), 1);
+    // Each has the other's inventory from entry 0, and commits; it reveals besides where it has the other's commitment too by then.
+    assert!(rt; !second(posts.get(), 0).ok_or("12 posts")?.is_empty());
+    assert!(rt; !second(posts.get(), 1).ok_or("12 posts")?.is_empty());
     Ok(())
 }
