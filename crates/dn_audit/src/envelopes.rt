@@ -1,11 +1,14 @@
 // Whether the signatures in an envelope are of what their keys had signed.
-ghost use Rattle.dn_record_types.specs.Records.{IsStatement, IsEnvelope};
+ghost use Rattle.std.specs.Prelude.{◌≡◌, ◌↔◌, IsTrue, IfOk};
+ghost use Rattle.dn_records.specs.Records.{statement_bytes, IsStatement, IsEnvelope};
+ghost use Rattle.dn_audit.specs.Auditor.{MayStand, MayBeListed, MayList, MaySeal, SealsAreTheirs};
+ghost use Rattle.dn_audit.specs.Envelopes.{IsEnvelopeIn, carried_of, submission_of};
 
 use crate::group::Group;
 use crate::signings::Signings;
 use dn_lms::verify;
 use dn_memory::NoMemory;
-use dn_records::{Envelope, Inventory, RecordFault, Statement, decode_envelope, encode};
+use dn_records::{Entry, Envelope, Inventory, RecordFault, Statement, decode_envelope, encode};
 use dn_roster::Roster;
 use dn_wire::{Bytes, ClientId, Round, SignerId};
 use std::alloc::Global;
@@ -22,12 +25,9 @@ pub struct Known<'a> {
 impl<'a> Known<'a> {
     /// Whether a signature may stand under these bytes: its key isn't an honest member's, the key had signed the bytes, or it doesn't
     /// verify.
-    fn may_stand(
-        &self,
-        who: SignerId,
-        statement: &[u8],
-        signature: &[u8],
-    ) -> Result<bool, NoMemory> {
+    fn may_stand(&self, who: SignerId, statement: &[u8], signature: &[u8]) -> Result<bool, NoMemory>
+        ensures { IfOk result (λ b. IsTrue b ↔ MayStand self.now.roster.now self.now.group.now self.now.signings.now who statement.now signature.now) }
+    {
         if !self.group.is_honest_key(who) {
             return Ok(true);
         }
@@ -46,22 +46,32 @@ impl<'a> Known<'a> {
         signature: &[u8],
     ) -> Result<bool, NoMemory>
         requires { IsStatement statement.now }
+        ensures { IfOk result (λ b. IsTrue b ↔ MayStand self.now.roster.now self.now.group.now self.now.signings.now who (statement_bytes statement.now) signature.now) }
     {
         let statement = encode(self.alloc, statement)?;
         self.may_stand(who, &statement, signature)
     }
 
+    /// The same of an entry of an inventory: of the submission that it stands for.
+    fn may_be_listed(&self, inventory: &Inventory, entry: &Entry) -> Result<bool, NoMemory>
+        ensures { IfOk result (λ b. IsTrue b ↔ MayBeListed self.now.roster.now self.now.group.now self.now.signings.now inventory.now entry.now) }
+    {
+        let submission = submission(
+            inventory.r.0,
+            inventory.prev.0,
+            entry.client.0,
+            entry.digest,
+        );
+        let who = SignerId::Client(entry.client);
+        self.may_be_signed(who, &submission, entry.signature.get())
+    }
+
     /// The same of each entry of an inventory.
-    fn may_list(&self, inventory: &Inventory) -> Result<bool, NoMemory> {
+    fn may_list(&self, inventory: &Inventory) -> Result<bool, NoMemory>
+        ensures { IfOk result (λ b. IsTrue b ↔ MayList self.now.roster.now self.now.group.now self.now.signings.now inventory.now) }
+    {
         for entry in inventory.entries.get() {
-            let submission = submission(
-                inventory.r.0,
-                inventory.prev.0,
-                entry.client.0,
-                entry.digest,
-            );
-            let who = SignerId::Client(entry.client);
-            if !self.may_be_signed(who, &submission, entry.signature.get())? {
+            if !self.may_be_listed(inventory, entry)? {
                 return Ok(false);
             }
         }
@@ -71,6 +81,7 @@ impl<'a> Known<'a> {
     /// The same of an envelope itself, and of what it lists.
     fn may_be_sealed(&self, envelope: &Envelope) -> Result<bool, NoMemory>
         requires { IsEnvelope envelope.now }
+        ensures { IfOk result (λ b. IsTrue b ↔ MaySeal self.now.roster.now self.now.group.now self.now.signings.now envelope.now) }
     {
         let signature = envelope.signature.get();
         if !self.may_be_signed(envelope.signer, &envelope.statement, signature)? {
@@ -83,20 +94,21 @@ impl<'a> Known<'a> {
     }
 
     /// The same of all signatures in an envelope's bytes, and in the envelopes that it carries, to any depth.
-    pub fn may_be_put(&self, bytes: &[u8]) -> Result<bool, NoMemory> {
-        let mut bytes = Bytes::of(Vec::from_slice(self.alloc, bytes)?);
+    pub fn may_be_put(&self, bytes: &[u8]) -> Result<bool, NoMemory>
+        ensures { IfOk result (λ b. IsTrue b ↔ SealsAreTheirs self.now.roster.now self.now.group.now self.now.signings.now bytes.now) }
+    {
+        let mut rest = Bytes::of(Vec::from_slice(self.alloc, bytes)?);
         // A carried envelope is shorter than the one that carries it.
-        for _ in 0..bytes.get().len() {
-            let envelope = match decode_envelope(self.alloc, bytes.get()) {
-                Ok(envelope) => envelope,
-                Err(RecordFault::NoMemory) => return Err(NoMemory),
-                Err(_) => return Ok(true),
+        while !rest.get().is_empty() {
+            let envelope = match envelope_in(self.alloc, rest.get())? {
+                Some(envelope) => envelope,
+                None => return Ok(true),
             };
             if !self.may_be_sealed(&envelope)? {
                 return Ok(false);
             }
             match carried_in(envelope.statement) {
-                Some(carried) => bytes = carried,
+                Some(carried) => rest = carried,
                 None => return Ok(true),
             }
         }
@@ -104,8 +116,21 @@ impl<'a> Known<'a> {
     }
 }
 
+/// The envelope that bytes are, if they are one.
+fn envelope_in(alloc: Global, bytes: &[u8]) -> Result<Option<Envelope>, NoMemory>
+    ensures { IfOk result (IsEnvelopeIn bytes.now) }
+{
+    match decode_envelope(alloc, bytes) {
+        Ok(envelope) => Ok(Some(envelope)),
+        Err(RecordFault::NoMemory) => Err(NoMemory),
+        Err(_) => Ok(None),
+    }
+}
+
 /// The envelope that a statement carries.
-fn carried_in(statement: Statement) -> Option<Bytes> {
+fn carried_in(statement: Statement) -> Option<Bytes>
+    ensures { result ≡ carried_of statement }
+{
     match statement {
         Statement::Rebuttal { envelope, .. } => Some(envelope),
         _other => None,
@@ -114,7 +139,8 @@ fn carried_in(statement: Statement) -> Option<Bytes> {
 
 /// The submission that an entry of an inventory stands for.
 fn submission(r: u64, prev: u64, client: u32, digest: [u8; 32]) -> Statement
-    ensures { IsStatement result }
+    ensures fits { IsStatement result }
+    ensures value { result ≡ submission_of r prev client digest }
 {
     Statement::Submission {
         r: Round(r),

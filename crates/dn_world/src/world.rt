@@ -296,7 +296,9 @@ impl World {
     }
 
     /// An honest server; None exactly where that server is corrupt or out of range.
-    pub fn server(&self, j: ServerId) -> Option<&ServerCore> {
+    pub fn server(&self, j: ServerId) -> Option<&ServerCore>
+        ensures group { IfSome result (λ core. core.now.seat.roster ≡ self.now.roster) }
+    {
         match self.state.servers.get(j.0 as usize) {
             Some(Some(core)) => Some(core),
             _ => None,
