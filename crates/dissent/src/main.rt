@@ -3,7 +3,8 @@
 #![tactic(auto)]
 
 use dn_cmd::dissent;
-use dn_io::{ReadEdge, Status, WriteEdge};
+use dn_crew::ThreadCrew;
+use dn_io::{Hold, ReadEdge, Status, WriteEdge};
 use std::process::ExitCode;
 use std::{env, io};
 
@@ -23,14 +24,24 @@ fn words(rt: &HostRuntime) -> Result<Vec<String>, Status> {
     Ok(words)
 }
 
+/// Lets all workers go on.
+#[derive(Drop)]
+struct Free {}
+
+impl Hold for Free {
+    fn reached(&self, _place: u32) {}
+}
+
 fn main(rt: HostRuntime) -> ExitCode {
-    let status = match words(&rt) {
-        Ok(words) => {
+    let status = match (words(&rt), Box::new(rt.alloc(), Free {})) {
+        (Ok(words), Ok(hold)) => {
+            let mut crew = ThreadCrew::make(rt.alloc(), hold);
             let mut input = ReadEdge::make(rt.reader());
             let mut output = WriteEdge::make(io::writer(&rt));
-            dissent(&rt, rt.alloc(), &words, &mut input, &mut output)
+            dissent(&rt, rt.alloc(), &words, &mut input, &mut output, &mut crew)
         }
-        Err(status) => status,
+        (Err(status), _) => status,
+        (Ok(_), Err(_)) => Status::NoMemory,
     };
     if status != Status::Ok {
         let _ = eprintln!(rt; "{status}");

@@ -3,3 +3,4 @@ pub mod PassLemmas
 pub mod RoundLemmas
 pub mod RunLemmas
 pub mod CheckLemmas
+pub mod ShowingLemmas

@@ -8,9 +8,10 @@ use Rattle.dn_gen.specs.Generated.{generated}
 use Rattle.dn_notary.specs.Tasks.{notary_task, notarized_task}
 use Rattle.dn_verify.specs.Verify.{verify_task}
 use Rattle.dn_cmd.specs.declared.command.Command.{Command}
-use Rattle.dn_cmd.specs.declared.command.Command.TheVariants.{Run, Verify, Check, Gen, Notary, Notarized}
+use Rattle.dn_cmd.specs.declared.command.Command.TheVariants.{Run, Verify, Check, Gen, Demo, Notary, Notarized}
 use Rattle.dn_cmd.specs.Run.{script_task}
 use Rattle.dn_cmd.specs.Check.{check_task}
+use Rattle.dn_cmd.specs.Demo.{EndsDemo}
 
 -- the input's and the output's side of the outside at one moment
 abbrev pub outside : Option (List ℕ) → Option (List ℕ) → ℕ → ℕ → Outside
@@ -23,6 +24,7 @@ Answers Run before after s = Ends script_task before after s
 Answers Verify before after s = Ends verify_task before after s
 Answers Check before after s = Ends check_task before after s
 Answers (Gen num) before after s = EndsUnread (generated num) before.held after.held before.write_faults after.write_faults s
+Answers (Demo num) before after s = EndsDemo num before.held after.held before.write_faults after.write_faults s
 Answers (Notary num) before after s = Ends (notary_task num) before after s
 Answers Notarized before after s = Ends notarized_task before after s
 
@@ -32,5 +34,6 @@ IsAnswer Run text s = IsDue script_task text s
 IsAnswer Verify text s = IsDue verify_task text s
 IsAnswer Check text s = IsDue check_task text s
 IsAnswer (Gen num) text s = s ≡ status.Ok
+IsAnswer (Demo num) text s = s ≡ status.Ok
 IsAnswer (Notary num) text s = IsDue (notary_task num) text s
 IsAnswer Notarized text s = IsDue notarized_task text s

@@ -3,4 +3,5 @@ pub mod Round
 pub mod Command
 pub mod Run
 pub mod Check
+pub mod Demo
 pub mod Answers

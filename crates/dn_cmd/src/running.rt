@@ -7,12 +7,14 @@ ghost use Rattle.dn_cmd.specs.Round.{plain_text};
 ghost use Rattle.dn_cmd.specs.Run.{script_task, refusal_of, EndsPlay};
 
 use crate::text::plain_text;
+use dn_crew::Crew;
 use dn_io::{Sink, Source, Status, read_whole, write_whole};
 use dn_run_report::Played;
 use dn_runner::play;
 use dn_script::{PlainScript, Script, ScriptFault, parse_script, plain_script};
 use dn_wire::MAX_SCRIPT_BYTES;
 use std::alloc::Global;
+use std::sync::Wait;
 use std::thread::Threads;
 
 /// The status of a script that is not read.
@@ -50,27 +52,29 @@ fn write_report<K: Sink>(played: &Played, output: &mut K) -> Status
 }
 
 /// Runs the script of a group, and then writes its report, line by line.
-fn run_group<R: Threads + Sync, K: Sink>(
+fn run_group<R: Threads + Wait + Sync, K: Sink, C: Crew>(
     rt: &R,
     alloc: Global,
+    crew: &mut C,
     script: &Script,
     output: &mut K,
 ) -> Status
     ensures { EndsPlay script.now (K.held output.old) (K.held output.new) (K.faults output.old) (K.faults output.new) result }
 {
-    match play(rt, alloc, script) {
+    match play(rt, alloc, crew, script) {
         Ok(Some(played)) => write_report(&played, output),
         Ok(None) => Status::Unbuilt,
         Err(_) => Status::NoMemory,
     }
 }
 
-/// Reads a script whole, runs it, and writes what it comes to.
-pub fn run<R: Threads + Sync, S: Source, K: Sink>(
+/// Reads a script whole, runs it, and writes what it comes to. The crew does the threads' work of races and live runs.
+pub fn run<R: Threads + Wait + Sync, S: Source, K: Sink, C: Crew>(
     rt: &R,
     alloc: Global,
     input: &mut S,
     output: &mut K,
+    crew: &mut C,
 ) -> Status
     ensures { Ends script_task
         (outside (S.left input.old) (K.held output.old) (S.faults input.old) (K.faults output.old))
@@ -86,7 +90,7 @@ pub fn run<R: Threads + Sync, S: Source, K: Sink>(
     };
     match plain_script(alloc, &script) {
         Ok(Some(plain)) => run_plain(alloc, &plain, output),
-        Ok(None) => run_group(rt, alloc, &script, output),
+        Ok(None) => run_group(rt, alloc, crew, &script, output),
         Err(_) => Status::NoMemory,
     }
 }

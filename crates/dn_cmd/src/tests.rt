@@ -1,11 +1,20 @@
 use crate::dissent;
-use dn_io::{Cause, MemSink, MemSource, Status, SureSink, SureSource};
+use dn_crew::ThreadCrew;
+use dn_io::{Cause, Hold, MemSink, MemSource, Status, SureSink, SureSource};
 use std::alloc::{AllocError, Global};
 use std::sync::Wait;
 use std::test::Fail;
 use std::thread::Threads;
 
 const SEED: &str = "0000000000000000000000000000000000000000000000000000000000000000";
+
+/// Holds nobody.
+#[derive(Drop)]
+struct Free {}
+
+impl Hold for Free {
+    fn reached(&self, _place: u32) {}
+}
 
 fn words(alloc: Global, word: &str) -> Result<Vec<String>, AllocError> {
     let mut words = Vec::new(alloc);
@@ -24,7 +33,14 @@ fn answer<R: Threads + Wait + Sync>(
     let bytes = Vec::from_slice(alloc, text.as_bytes())?;
     let mut input = SureSource::make(bytes, 7);
     let mut output = SureSink::make(alloc, 1)?;
-    let status = dissent(rt, alloc, &words(alloc, "run")?, &mut input, &mut output);
+    let status = dissent(
+        rt,
+        alloc,
+        &words(alloc, "run")?,
+        &mut input,
+        &mut output,
+        &mut ThreadCrew::make(alloc, Box::new(alloc, Free {})?),
+    );
     Ok((status, Vec::from_slice(alloc, output.bytes())?))
 }
 
@@ -149,18 +165,56 @@ fn status_of<R: Threads + Wait + Sync>(
 ) -> Result<Status, Fail> {
     let mut input = SureSource::make(bytes, 65_536);
     let mut output = SureSink::make(alloc, 1)?;
-    Ok(dissent(rt, alloc, &words(alloc, "run")?, &mut input, &mut output))
+    Ok(dissent(
+        rt,
+        alloc,
+        &words(alloc, "run")?,
+        &mut input,
+        &mut output,
+        &mut ThreadCrew::make(alloc, Box::new(alloc, Free {})?),
+    ))
+}
+
+/// A group with a corrupt client, a race and a live run.
+const GROUP: &str = "open s0 1\n\tsubmit  c1 s0 1\nflow 1\nrace s0 1 c0\nlive 2\nflow 1\nend";
+
+/// What its report has.
+const PARTS: [&str; 7] = [
+    "\ncorrupt c1\n",
+    "\n@ inject c1 s0 0\n",
+    "\ntold c1 s0 1 included\n",
+    "\n@ race s0 1\n",
+    "\n@ board s0 1\n",
+    "\nlisted 1 ",
+    "\naudit yes yes yes\nend\n",
+];
+
+/// Whether a text has a part.
+fn has(text: &[u8], part: &str) -> bool {
+    part.is_empty()
+        || text
+            .windows(part.len())
+            .any(|window| window == part.as_bytes())
 }
 
 #[test]
-fn a_group_script_is_good_and_not_run(rt: HostRuntime) -> Result<(), Fail> {
+fn a_group_script_is_run(rt: HostRuntime) -> Result<(), Fail> {
     let alloc = rt.alloc();
-    let text = format!(in alloc; "# a group\r\n\tgroup  2 1 2 5 5 {SEED} \n\ncorrupt c1\nend")?;
+    let text = format!(in alloc; "# a group\r\ngroup 2 1 2 5 5 {SEED}\n\ncorrupt c1\n{GROUP}")?;
     let mut input = SureSource::make(Vec::from_slice(alloc, text.as_bytes())?, 7);
-    let mut output = SureSink::make(alloc, 1)?;
-    let status = dissent(&rt, alloc, &words(alloc, "run")?, &mut input, &mut output);
-    assert_eq!(rt; status, Status::Unbuilt);
-    assert!(rt; output.bytes().is_empty());
+    let mut output = SureSink::make(alloc, 1000)?;
+    let status = dissent(
+        &rt,
+        alloc,
+        &words(alloc, "run")?,
+        &mut input,
+        &mut output,
+        &mut ThreadCrew::make(alloc, Box::new(alloc, Free {})?),
+    );
+    assert_eq!(rt; status, Status::Ok);
+    for part in PARTS {
+        assert!(rt; has(output.bytes(), part));
+    }
     Ok(())
 }
 
@@ -188,11 +242,25 @@ fn other_words_are_refused(rt: HostRuntime) -> Result<(), Fail> {
     let mut output = SureSink::make(alloc, 1)?;
     let none: [String; 0] = [];
     assert_eq!(rt;
-        dissent(&rt, alloc, &none, &mut input, &mut output),
+        dissent(
+            &rt,
+            alloc,
+            &none,
+            &mut input,
+            &mut output,
+            &mut ThreadCrew::make(alloc, Box::new(alloc, Free {})?)
+        ),
         Status::Usage
     );
     assert_eq!(rt;
-        dissent(&rt, alloc, &words(alloc, "demo")?, &mut input, &mut output),
+        dissent(
+            &rt,
+            alloc,
+            &words(alloc, "demo")?,
+            &mut input,
+            &mut output,
+            &mut ThreadCrew::make(alloc, Box::new(alloc, Free {})?)
+        ),
         Status::Usage
     );
     Ok(())
@@ -203,7 +271,14 @@ fn a_failed_read_is_told(rt: HostRuntime) -> Result<(), Fail> {
     let alloc = rt.alloc();
     let mut input = MemSource::make(Vec::new(alloc), 1, vec![in alloc; 0]?);
     let mut output = MemSink::make(alloc, 4, vec![in alloc]?)?;
-    let status = dissent(&rt, alloc, &words(alloc, "run")?, &mut input, &mut output);
+    let status = dissent(
+        &rt,
+        alloc,
+        &words(alloc, "run")?,
+        &mut input,
+        &mut output,
+        &mut ThreadCrew::make(alloc, Box::new(alloc, Free {})?),
+    );
     assert_eq!(rt; status, Status::ReadFault);
     assert!(rt; output.bytes().is_empty());
     Ok(())
@@ -216,7 +291,14 @@ fn a_failed_write_leaves_a_front(rt: HostRuntime) -> Result<(), Fail> {
     let bytes = Vec::from_slice(alloc, text.as_bytes())?;
     let mut input = MemSource::make(bytes, 50, vec![in alloc]?);
     let mut output = MemSink::make(alloc, 4, vec![in alloc; 2]?)?;
-    let status = dissent(&rt, alloc, &words(alloc, "run")?, &mut input, &mut output);
+    let status = dissent(
+        &rt,
+        alloc,
+        &words(alloc, "run")?,
+        &mut input,
+        &mut output,
+        &mut ThreadCrew::make(alloc, Box::new(alloc, Free {})?),
+    );
     assert_eq!(rt; status, Status::WriteFault);
     assert_eq!(rt; output.bytes(), b"dissent-".as_slice());
     Ok(())

@@ -1,5 +1,5 @@
 -- Events are shown in their order.
-use Rattle.std.proofs.Common.{◌≡◌, ◌<◌, arith, ℕ, ◌+◌, List, [], ◌∷◌, ◌++◌, length, All, sym, ap, subst, ◌∙◌, refl}
+use Rattle.std.proofs.Common.{◌≡◌, arith, ℕ, ◌+◌, List, [], ◌∷◌, ◌++◌, length, All, sym, ap, subst, ◌∙◌, refl}
 use Rattle.std.proofs.lemmas.List.{length_push}
 use Rattle.std.proofs.lemmas.List.Elements.{All-push}
 use Rattle.dn_roster.proofs.DealingLemmas.{range-more}
@@ -32,4 +32,19 @@ pub nothing_in_order : (v : RunView) → v.history ≡ [] → v.shown ≡ [] →
 nothing_in_order v history shows = record {
   events = subst (λ h. All (λ x. IsWithinLimits x.event) h) (sym history) (λ k d within. absurd (omega (arith, within)));
   shown = ap events_shown shows ∙ ap (λ h. numbers_below (length h)) (sym history);
+}
+
+-- what is no event shows no event more
+pub mark_shown : (xs : List Shown) (mark : Shown) → events_shown (mark ∷ []) ≡ [] → events_shown (xs ++ mark ∷ []) ≡ events_shown xs
+mark_shown [] mark is = is
+mark_shown (shown.Event number ∷ xs) mark is = ap (λ l. number ∷ l) (mark_shown xs mark is)
+mark_shown (shown.Race server workers ∷ xs) mark is = mark_shown xs mark is
+mark_shown (shown.Board server read ∷ xs) mark is = mark_shown xs mark is
+mark_shown (shown.Ignored word ∷ xs) mark is = mark_shown xs mark is
+
+-- one mark more, which is shown last
+pub one_mark_more : (v w : RunView) (mark : Shown) → IsInOrder v → events_shown (mark ∷ []) ≡ [] → w.history ≡ v.history → w.shown ≡ v.shown ++ mark ∷ [] → IsInOrder w
+one_mark_more v w mark order is history shows = record {
+  events = subst (λ h. All (λ x. IsWithinLimits x.event) h) (sym history) order.events;
+  shown = ap events_shown shows ∙ mark_shown v.shown mark is ∙ order.shown ∙ ap (λ h. numbers_below (length h)) (sym history);
 }

@@ -1,18 +1,33 @@
 -- What is kept while a script is run.
-use Rattle.std.specs.Prelude.{◌≡◌, ℕ, List, length, All}
+use Rattle.std.specs.Prelude.{◌≡◌, List, [], ◌∷◌, length, All}
+use Rattle.dn_roster.specs.declared.group.GroupSpec.{GroupSpec}
+use Rattle.dn_roster.specs.Group as group
 use Rattle.dn_roster.specs.Roster.{RosterView}
+use Rattle.dn_seal.specs.Dealt.{dealt_roster}
 use Rattle.dn_world.specs.declared.step.Step.{Step}
-use Rattle.dn_world.specs.Events.{IsWithinLimits}
+use Rattle.dn_world.specs.Events as events
 use Rattle.dn_run_report.specs.declared.shown.Shown.{Shown}
 use Rattle.dn_run_report.specs.Report.{events_shown, numbers_below}
 
--- the roster of the group, the events so far with what came of them, and what is shown of them
+-- the group, the events so far with what came of them, and what is shown of them
 pub record RunView : Type 0 where
-  pub roster : RosterView
+  pub group : GroupSpec
   pub history : List Step
   pub shown : List Shown
 
 -- the events are within their limits, and are shown in their order, each once
 pub record IsInOrder (v : RunView) : Type 0 where
-  pub events : All (λ s. IsWithinLimits s.event) v.history
+  pub events : All (λ s. events.IsWithinLimits s.event) v.history
   pub shown : events_shown v.shown ≡ numbers_below (length v.history)
+
+-- the roster, the world and the puppets are of the group, dealt from its seed
+pub record IsKept (v : RunView) (roster world puppets : RosterView) : Type 0 where
+  pub limits : group.IsWithinLimits v.group
+  pub roster_is : roster ≡ dealt_roster v.group
+  pub world_is : world ≡ roster
+  pub puppets_are : puppets ≡ world
+  pub order : IsInOrder v
+
+-- what is shown is no event
+abbrev pub IsMark : Shown → Type 0
+IsMark shown = events_shown (shown ∷ []) ≡ []

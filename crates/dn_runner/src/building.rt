@@ -1,37 +1,11 @@
-// The group of a script, and which scripts can be run so far.
+// The group of a script, and its corrupt members.
 ghost use Rattle.std.specs.Prelude.{◌≡◌, IfSome};
 ghost use Rattle.dn_roster.specs.Group.{IsWithinLimits};
-ghost use Rattle.dn_runner.specs.Play.{group_of};
+ghost use Rattle.dn_runner.specs.Play.{corrupt_of, group_of};
 
 use dn_roster::GroupSpec;
 use dn_script::{Script, ScriptLine};
-
-/// Whether the line is one that is run: no member is corrupt, and no threads are asked for.
-fn is_run(line: &ScriptLine) -> bool {
-    matches!(
-        line,
-        ScriptLine::Group { .. }
-            | ScriptLine::Say { .. }
-            | ScriptLine::Open { .. }
-            | ScriptLine::Close { .. }
-            | ScriptLine::Abandon { .. }
-            | ScriptLine::Submit { .. }
-            | ScriptLine::Deliver { .. }
-            | ScriptLine::Lose { .. }
-            | ScriptLine::Cut { .. }
-            | ScriptLine::Flow { .. }
-            | ScriptLine::Tick { .. }
-            | ScriptLine::Leave { .. }
-            | ScriptLine::Accuse { .. }
-            | ScriptLine::Judge { .. }
-            | ScriptLine::End
-    )
-}
-
-/// Whether all lines are run.
-pub fn are_run(script: &Script) -> bool {
-    script.lines().iter().all(|line| is_run(&line.1))
-}
+use dn_wire::Member;
 
 fn within_limits(group: GroupSpec) -> Option<GroupSpec>
     ensures limits { IfSome result IsWithinLimits }
@@ -81,5 +55,15 @@ pub fn group_of(script: &Script) -> Option<GroupSpec>
             seed: *seed,
         }),
         _ => None,
+    }
+}
+
+/// The corrupt members that a script's second line names; none without such a line.
+pub fn corrupt_of(script: &Script) -> &[Member]
+    ensures { result.now ≡ corrupt_of script.now }
+{
+    match script.lines().get(1) {
+        Some((_, ScriptLine::Corrupt(members))) => members.get(),
+        _ => &[],
     }
 }

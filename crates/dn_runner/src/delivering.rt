@@ -10,7 +10,7 @@ use std::alloc::Global;
 use std::thread::Threads;
 
 /// The numbers of all messages in flight, in order.
-fn in_flight(alloc: Global, world: &World) -> Result<Vec<u64>, NoMemory> {
+pub fn in_flight(alloc: Global, world: &World) -> Result<Vec<u64>, NoMemory> {
     let flight = world.flight();
     let mut ids = Vec::new(alloc);
     let mut next = flight.first();
@@ -26,14 +26,29 @@ fn in_flight(alloc: Global, world: &World) -> Result<Vec<u64>, NoMemory> {
     Ok(ids)
 }
 
+/// Delivers a message, and has a corrupt member that it reaches do what it does then.
+pub fn deliver<R: Threads + Sync>(rt: &R, run: &mut Run, id: u64) -> Result<(), NoMemory>
+    ensures { run.new.group ≡ run.old.group }
+{
+    let found = run.world.flight().get(id);
+    run.step(rt, Event::Deliver { id })?;
+    let Some(msg) = found else {
+        return Ok(());
+    };
+    let mut posts = Vec::new(run.alloc);
+    run.puppets
+        .reach(rt, &run.world, msg.to, msg.payload, &mut posts)?;
+    run.inject(rt, posts)
+}
+
 /// Delivers each message in flight, by number, but those that would be early.
 pub fn flow<R: Threads + Sync>(rt: &R, run: &mut Run) -> Result<(), NoMemory>
-    ensures { run.new.roster ≡ run.old.roster }
+    ensures { run.new.group ≡ run.old.group }
 {
     let ids = in_flight(run.alloc, &run.world)?;
     for id in &ids {
         if !run.world.is_early(*id) {
-            run.step(rt, Event::Deliver { id: *id })?;
+            deliver(rt, run, *id)?;
         }
     }
     Ok(())
@@ -54,7 +69,7 @@ pub fn cut<R: Threads + Sync>(
     from: Member,
     to: Member,
 ) -> Result<(), NoMemory>
-    ensures { run.new.roster ≡ run.old.roster }
+    ensures { run.new.group ≡ run.old.group }
 {
     let ids = in_flight(run.alloc, &run.world)?;
     for id in &ids {

@@ -2,45 +2,53 @@
 ghost use Rattle.std.specs.Prelude.{IfOk, IfSome};
 ghost use Rattle.dn_runner.specs.Play.{IsPlayOf};
 
-use crate::building::{are_run, group_of};
+use crate::building::{corrupt_of, group_of};
 use crate::expanding::run_lines;
+use crate::members::in_order;
 use crate::run::Run;
+use dn_crew::Crew;
 use dn_memory::NoMemory;
+use dn_puppets::Puppets;
 use dn_run_report::Played;
 use dn_script::Script;
 use dn_seal::deal;
-use dn_wire::MemberList;
 use dn_world::World;
 use std::alloc::Global;
+use std::sync::Wait;
 use std::thread::Threads;
 
 /// How many workers add up a server's pads.
 const WORKERS: u32 = 4;
 
-/// Runs the script of a group; none where the script has lines that aren't run yet: those of corrupt members, and those that ask for
-/// threads.
-pub fn play<R: Threads + Sync>(
+/// Runs the script of a group; none where the script has no group. The crew does the threads' work of races and live runs.
+pub fn play<R: Threads + Wait + Sync, C: Crew>(
     rt: &R,
     alloc: Global,
+    crew: &mut C,
     script: &Script,
 ) -> Result<Option<Played>, NoMemory>
     ensures { IfOk result (λ played. IfSome played (IsPlayOf script.now)) }
 {
-    if !are_run(script) {
-        return Ok(None);
-    }
     let Some(group) = group_of(script) else {
         return Ok(None);
     };
+    let corrupt = corrupt_of(script);
     let dealt = deal(alloc, &group)?;
     let mut run = Run {
         alloc,
-        world: World::make(alloc, &dealt, &[], WORKERS)?,
+        group,
+        roster: dealt.roster.copy(alloc)?,
+        world: World::make(alloc, &dealt, corrupt, WORKERS)?,
+        puppets: Puppets::make(alloc, &dealt, corrupt, WORKERS)?,
         shown: Vec::new(alloc),
     };
-    run_lines(rt, &mut run, script)?;
-    let Run { world, shown, .. } = run;
-    let roster = dealt.roster.copy(alloc)?;
-    let corrupt = MemberList::of(Vec::new(alloc));
+    run_lines(rt, &mut run, crew, script)?;
+    let corrupt = in_order(alloc, &group, corrupt)?;
+    let Run {
+        roster,
+        world,
+        shown,
+        ..
+    } = run;
     Ok(Some(Played::of(alloc, group, roster, corrupt, world, shown)))
 }

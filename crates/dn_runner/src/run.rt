@@ -1,20 +1,26 @@
 ghost use Rattle.std.specs.Prelude.{◌≡◌, IsTrue};
 ghost use Rattle.dn_world.specs.Events.{IsWithinLimits};
+ghost use Rattle.dn_runner.specs.Played.{IsMark};
 
 use dn_memory::NoMemory;
+use dn_puppets::{Injection, Puppets};
 use dn_report::Event;
+use dn_roster::{GroupSpec, Roster};
 use dn_run_report::Shown;
-use dn_wire::{MAX_ROUND, MAX_TEXT};
+use dn_wire::{MAX_ROUND, MAX_TEXT, Member};
 use dn_world::World;
 use std::alloc::Global;
 use std::marker::Model;
 use std::thread::Threads;
 
-/// A script's run: the world, and what is shown of it.
+/// A script's run: the world, the puppets of the corrupt members, and what is shown of it.
 #[derive(Drop)]
 pub struct Run {
     pub alloc: Global,
+    pub group: GroupSpec,
+    pub roster: Roster,
     pub world: World,
+    pub puppets: Puppets,
     /// What is shown so far, in order.
     pub shown: Vec<Shown>,
 }
@@ -34,19 +40,19 @@ fn is_within(event: &Event) -> bool
 }
 
 impl Model for Run {
-    ghost use Rattle.dn_runner.specs.Played.{RunView, IsInOrder};
+    ghost use Rattle.dn_runner.specs.Played.{RunView, IsKept};
 
     ghost Value = { RunView };
 
-    ghost view = { λ r. record { roster = r.world.roster; history = r.world.history; shown = r.shown.items } };
+    ghost view = { λ r. record { group = r.group; history = r.world.history; shown = r.shown.items } };
 
-    ghost invariant = { λ r. IsInOrder record { roster = r.world.roster; history = r.world.history; shown = r.shown.items } };
+    ghost invariant = { λ r. IsKept record { group = r.group; history = r.world.history; shown = r.shown.items } r.roster r.world.roster r.puppets };
 }
 
 impl Run {
     /// Carries an event out. The lines of a script keep the limits of events.
     pub fn step<R: Threads + Sync>(&mut self, rt: &R, event: Event) -> Result<(), NoMemory>
-        ensures { self.new.roster ≡ self.old.roster }
+        ensures { self.new.group ≡ self.old.group }
     {
         if is_within(&event) {
             let number = self.world.history().len() as u64;
@@ -55,5 +61,34 @@ impl Run {
             self.shown.push_reserved(Shown::Event(number));
         }
         Ok(())
+    }
+
+    /// Shows what is no event.
+    pub fn mark(&mut self, shown: Shown) -> Result<(), NoMemory>
+        requires { IsMark shown }
+        ensures { self.new.group ≡ self.old.group }
+    {
+        self.shown.reserve(1)?;
+        self.shown.push_reserved(shown);
+        Ok(())
+    }
+
+    /// Carries out what puppets put.
+    pub fn inject<R: Threads + Sync>(
+        &mut self,
+        rt: &R,
+        posts: Vec<Injection>,
+    ) -> Result<(), NoMemory>
+        ensures { self.new.group ≡ self.old.group }
+    {
+        for post in posts {
+            let Injection { from, to, payload } = post;
+            self.step(rt, Event::Inject { from, to, payload })?;
+        }
+        Ok(())
+    }
+
+    pub fn is_corrupt(&self, member: Member) -> bool {
+        self.world.is_corrupt(member)
     }
 }

@@ -2,4 +2,4 @@ use Rattle.std.proofs.Common.{◌≡◌}
 use Rattle.dn_runner.proofs.delivering.flow.Given as goal
 
 abbrev pub invariant-loop-id : goal.invariant-loop-id
-invariant-loop-id g l = l.run.roster ≡ l.initial.run.roster
+invariant-loop-id g l = l.run.group ≡ l.initial.run.group

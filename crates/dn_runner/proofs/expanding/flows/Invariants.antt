@@ -2,4 +2,4 @@ use Rattle.std.proofs.Common.{◌≡◌}
 use Rattle.dn_runner.proofs.expanding.flows.Given as goal
 
 abbrev pub invariant-loop : goal.invariant-loop
-invariant-loop g l = l.run.roster ≡ l.initial.run.roster
+invariant-loop g l = l.run.group ≡ l.initial.run.group
