@@ -121,6 +121,58 @@ rate() { # NAME LEAST-MB-A-SECOND OUR-WORDS
     fi
 }
 
+# Runs two measures of ours in turn, and prints how many times as long a part of the first takes as a part of the second. The parts are those
+# that are told on standard error as 'NAME SECONDS NAME SECONDS ..'. Where it is asked, both have to print the same line, or each its own.
+ratio() { # NAME LIMIT RUNS PART WORDS OTHER-PART OTHER-WORDS [same | LINE OTHER-LINE]
+    python3 - "$bench" "$@" <<'END' || broken=1
+import subprocess, sys
+program, name, limit, runs, part, words, other, others, *lines = sys.argv[1:]
+def run(words):
+    done = subprocess.run([program, *words.split()], capture_output=True, text=True, check=True)
+    fields = done.stderr.split()
+    return done.stdout, {part: float(seconds) for part, seconds in zip(fields[::2], fields[1::2])}
+def both():
+    first = run(words)
+    return first, first if others == words else run(others)
+rows = [both() for _ in range(int(runs))]
+printed = {tuple(text.rstrip("\n") for text, _ in row) for row in rows}
+if lines == ["same"] and len({text for pair in printed for text in pair}) != 1 or len(lines) == 2 and printed != {tuple(lines)}:
+    sys.exit(f"{name}: {printed}")
+one = min(first[1][part] for first, _ in rows)
+two = min(second[1][other] for _, second in rows)
+times = round(one / two, 2)
+holds = times <= float(limit)
+print(f"{name}: {one:.6f} s, {times:.2f} times {two:.6f} s, at most {limit}: {'holds' if holds else 'BROKEN'}")
+sys.exit(not holds)
+END
+}
+
+# Runs two commands in turn, the first on an input, and prints how many times as long it takes as the other.
+against() { # NAME LIMIT RUNS INPUT 'COMMAND ..' 'OTHER ..'
+    local ours=1e9 theirs=1e9 one ratio
+    for _ in $(seq "$3"); do
+        one=$(measured 1 "$4" "$work/ours" $5)
+        ours=$(least "$ours" "${one% *}")
+        one=$(measured 1 /dev/null "$work/theirs" $6)
+        theirs=$(least "$theirs" "${one% *}")
+    done
+    ratio=$(python3 -c 'import sys; print("%.2f" % (float(sys.argv[1]) / float(sys.argv[2])))' "$ours" "$theirs")
+    echo "$1: $ours s, $ratio times $theirs s, $(verdict "$ratio" "$2")"
+    at_most "$ratio" "$2" || broken=1
+}
+
+# The script of one round of a group of 512 clients and 16 servers.
+large_round() {
+    python3 -c '
+print("group 512 16 3 5 5", "%064x" % 7)
+for j in range(16): print("open", f"s{j}", 1)
+for i in range(512): print("submit", f"c{i}", f"s{i % 16}", 1)
+print("flow 1")
+for j in range(16): print("close", f"s{j}")
+print("flow 6")
+print("end")'
+}
+
 peer=
 if [ ! -d "$peer_sources" ]; then
     echo "plain Rust: skipped, no folder $peer_sources"
@@ -160,21 +212,8 @@ sys.exit(not holds)
 END
 
 # Verdicts: how many times as long one takes on twice as many envelopes, of a round of 512 clients and 16 servers.
-python3 - "$bench" <<'END' || broken=1
-import subprocess, sys
-def seconds(count):
-    done = subprocess.run([sys.argv[1], "verdict", "512", "16", str(count)], capture_output=True, text=True, check=True)
-    if done.stdout != f"{count} heard, 1 blamed, 0 silent\n":
-        sys.exit(f"verdict: {done.stdout}")
-    return float(done.stderr.split()[1])
-rows = [(seconds(65536), seconds(131072)) for _ in range(5)]
-one, two = (min(column) for column in zip(*rows))
-ratio = round(two / one, 2)
-holds = ratio <= 2.3
-print(f"a verdict on 65,536 envelopes: {one:.3f} s; on twice as many {ratio:.2f} times as long, "
-      f"at most 2.3: {'holds' if holds else 'BROKEN'}")
-sys.exit(not holds)
-END
+ratio 'a verdict on twice as many envelopes as 65,536' 2.3 5 verdict 'verdict 512 16 131072' verdict 'verdict 512 16 65536' \
+    '131072 heard, 1 blamed, 0 silent' '65536 heard, 1 blamed, 0 silent'
 
 # The notary: how many times as long 1,024 entries take as making 33 trees and 2,048 signatures.
 python3 - "$bench" <<'END' || broken=1
@@ -194,25 +233,14 @@ sys.exit(not holds)
 END
 
 # A server's sum: how many times as long four workers take as one, where there are four processors.
-python3 - "$bench" <<'END' || broken=1
-import os, subprocess, sys
-def run(workers):
-    done = subprocess.run([sys.argv[1], "sum", "512", "65536", str(workers), "20"], capture_output=True, text=True, check=True)
-    return done.stdout, float(done.stderr.split()[1])
-if (os.cpu_count() or 1) < 4:
-    print("a sum by four workers: skipped, fewer than four processors")
-    sys.exit(0)
-rows = [(run(1), run(4)) for _ in range(3)]
-if len({text for row in rows for text, _ in row}) != 1:
-    sys.exit("a sum by four workers: another sum than by one")
-one = min(row[0][1] for row in rows)
-four = min(row[1][1] for row in rows)
-ratio = round(four / one, 2)
-holds = ratio <= 0.4
-print(f"a sum of 512 pads of 65,536 bits: {one:.6f} s by one worker, {ratio:.2f} times as long by four, "
-      f"at most 0.4: {'holds' if holds else 'BROKEN'}")
-sys.exit(not holds)
-END
+if [ "$(nproc)" -lt 4 ]; then
+    echo "a sum by four workers: skipped, fewer than four processors"
+else
+    ratio 'a sum of 512 pads of 65,536 bits by four workers, to one by one' 0.4 3 sum 'sum 512 65536 4 20' sum 'sum 512 65536 1 20' same
+fi
+
+# A round through the cores of all servers: how many times as long it takes as its signature checks alone.
+ratio 'a round of 512 clients and 16 servers, to its signature checks' 1.3 1 round 'round 512 16 3 5 5 1' checks 'round 512 16 3 5 5 1'
 
 # The greatest plain round: every other client says something, so that the script stays within its limit.
 if [ -d "$top/crates/dissent" ]; then
@@ -225,6 +253,14 @@ print("end")' > "$work/script"
     read -r seconds memory <<< "$(measured 3 "$work/script" "$work/report" "$dissent" run)"
     echo "dissent run, 512 clients, 16 servers, 65,536 bits: $seconds s, $(verdict "$seconds" 4); $memory MB, $(verdict "$memory" 400)"
     at_most "$seconds" 4 && at_most "$memory" 400 || broken=1
+
+    # Runs of groups, to the dealing of the same group.
+    "$dissent" gen 7 > "$work/script"
+    against 'dissent run, the large script, to the deal alone' 1.3 5 "$work/script" "$dissent run" "$bench deal 48 3 3 5 6 7"
+    against 'dissent demo 7, to the deal alone' 1.3 5 /dev/null "$dissent demo 7" "$bench deal 48 3 3 5 6 7"
+    large_round > "$work/script"
+    [ -z "$peer" ] || against 'dissent run, a round of 512 clients and 16 servers, to the deal in plain Rust' 1.2 2 "$work/script" "$dissent run" \
+        "$peer deal 512 16 3 5 5 7"
 else
     echo "dissent run: skipped, no crate dissent"
 fi

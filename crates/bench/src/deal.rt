@@ -9,7 +9,7 @@ use dn_seal::deal;
 use std::alloc::Global;
 
 /// The group, where it is within the limits.
-fn within_limits(group: GroupSpec) -> Option<GroupSpec>
+pub fn within_limits(group: GroupSpec) -> Option<GroupSpec>
     ensures { IfSome result IsWithinLimits }
 {
     if group.version < 1 || 2 < group.version {

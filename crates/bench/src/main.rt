@@ -10,6 +10,7 @@ mod lms;
 mod notary;
 mod pads;
 mod records;
+mod rounds;
 mod sums;
 mod text;
 mod verdicts;
@@ -86,6 +87,7 @@ fn measure(
         "notary" => notary::line(rt, alloc, number(words, 1)?, number(words, 2)?),
         "deal" => deal::line(alloc, group(words)?),
         "flight" => flight::line(rt, alloc, number(words, 1)?, number(words, 2)?),
+        "round" => rounds::line(rt, alloc, group(words)?),
         "sum" => sums::line(
             rt,
             alloc,
