@@ -164,7 +164,7 @@ against() { # NAME LIMIT RUNS INPUT 'COMMAND ..' 'OTHER ..'
 # The script of one round of a group of 512 clients and 16 servers.
 large_round() {
     python3 -c '
-print("group 512 16 3 5 5", "%064x" % 7)
+print("group 512 16 3 5 6", "%064x" % 7)
 for j in range(16): print("open", f"s{j}", 1)
 for i in range(512): print("submit", f"c{i}", f"s{i % 16}", 1)
 print("flow 1")
@@ -240,7 +240,8 @@ else
 fi
 
 # A round through the cores of all servers: how many times as long it takes as its signature checks alone.
-ratio 'a round of 512 clients and 16 servers, to its signature checks' 1.3 1 round 'round 512 16 3 5 5 1' checks 'round 512 16 3 5 5 1'
+# A server signs 32 receipts and four statements of the round, so its key needs more than 32 leaves.
+ratio 'a round of 512 clients and 16 servers, to its signature checks' 1.3 1 round 'round 512 16 3 5 6 1' checks 'round 512 16 3 5 6 1'
 
 # The greatest plain round: every other client says something, so that the script stays within its limit.
 if [ -d "$top/crates/dissent" ]; then
@@ -260,7 +261,7 @@ print("end")' > "$work/script"
     against 'dissent demo 7, to the deal alone' 1.3 5 /dev/null "$dissent demo 7" "$bench deal 48 3 3 5 6 7"
     large_round > "$work/script"
     [ -z "$peer" ] || against 'dissent run, a round of 512 clients and 16 servers, to the deal in plain Rust' 1.2 2 "$work/script" "$dissent run" \
-        "$peer deal 512 16 3 5 5 7"
+        "$peer deal 512 16 3 5 6 7"
 else
     echo "dissent run: skipped, no crate dissent"
 fi

@@ -19,6 +19,19 @@ pub struct Letter {
     pub payload: Bytes,
 }
 
+/// Whether these are the same letters, in the same order.
+pub fn same_letters(letters: &[Letter], others: &[Letter]) -> bool {
+    if letters.len() != others.len() {
+        return false;
+    }
+    for (letter, other) in letters.iter().zip(others) {
+        if letter.to != other.to || !letter.payload.equals(&other.payload) {
+            return false;
+        }
+    }
+    true
+}
+
 /// What a payload carries, in the group of a roster.
 pub fn opened(alloc: Global, roster: &Roster, payload: &[u8]) -> Result<Opened, PlayFault>
     ensures { IfOk result (IsDelivered roster.now) }

@@ -4,4 +4,8 @@
 #[cfg(test)]
 mod alone;
 #[cfg(test)]
-mod words;
+mod openings;
+#[cfg(test)]
+mod rounds;
+#[cfg(test)]
+mod statements;

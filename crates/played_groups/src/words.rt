@@ -1,6 +1,6 @@
 // What servers answer, in words that can be compared.
 use dn_memory::NoMemory;
-use dn_server::{Act, Answer, Reason};
+use dn_server::{Act, Answer, Reason, SpoilReason};
 use std::alloc::Global;
 
 /// An answer, or one act of it.
@@ -10,7 +10,8 @@ pub enum Word {
     Told,
     Closed,
     Post,
-    Spoiled,
+    /// The run of the round ended by what this server did.
+    Spoiled(u32, SpoilReason),
     Certified,
     Held,
     Abandoned,
@@ -24,16 +25,15 @@ fn word_of(act: &Act) -> Word {
         Act::Told { .. } => Word::Told,
         Act::Closed { .. } => Word::Closed,
         Act::Post { .. } => Word::Post,
-        Act::Spoiled { .. } => Word::Spoiled,
+        Act::Spoiled { server, reason, .. } => Word::Spoiled(server.0, *reason),
         Act::Certified(_) => Word::Certified,
         Act::Held { .. } => Word::Held,
         Act::Abandoned => Word::Abandoned,
     }
 }
 
-/// The words of an answer.
-pub fn words(alloc: Global, answer: &Answer) -> Result<Vec<Word>, NoMemory> {
-    let mut words = Vec::new(alloc);
+/// Appends the words of an answer.
+pub fn put_words(words: &mut Vec<Word>, answer: &Answer) -> Result<(), NoMemory> {
     match answer {
         Answer::Acts(acts) => {
             for act in acts.get() {
@@ -43,5 +43,5 @@ pub fn words(alloc: Global, answer: &Answer) -> Result<Vec<Word>, NoMemory> {
         Answer::Ignored(reason) => words.push(Word::Ignored(*reason))?,
         Answer::Early => words.push(Word::Early)?,
     }
-    Ok(words)
+    Ok(())
 }
