@@ -1,15 +1,23 @@
-ghost use Rattle.std.specs.Prelude.{◌≡◌, ◌≢◌, ◌<◌, ◌≤◌, length, IfOk, IfSome, OnOk};
-ghost use Rattle.dn_roster.specs.Roster.{RosterView};
-ghost use Rattle.dn_world.specs.Sound.{AreOfGroup};
-ghost use Rattle.dn_wire.specs.declared.limits.TheConstants.{MAX_BITS, MAX_TEXT};
-
 // Events in which a member's core is called: what it answers, and what it puts.
+ghost use Rattle.std.specs.Prelude.{◌≡◌, ◌≢◌, ◌<◌, ◌≤◌, ◌++◌, ◌∷◌, [], List, Some, None, map, length, true, IfOk, IfSome, OnOk, slice_set, count_by};
+ghost use Rattle.dn_roster.specs.Roster.{RosterView};
+ghost use Rattle.dn_wire.specs.declared.limits.TheConstants.{MAX_BITS, MAX_TEXT};
+ghost use Rattle.dn_bits.specs.Bits.{below};
+ghost use Rattle.dn_record_types.specs.Records.{payload_bytes};
+ghost use Rattle.dn_record_types.specs.declared.payload.Payload.TheVariants as payloads;
+ghost use Rattle.dn_flight.specs.Flight.{is_from};
+ghost use Rattle.dn_report.specs.declared.outcome.Outcome.{Outcome as OutcomeOf};
+ghost use Rattle.dn_report.specs.declared.words.IgnoredWord.{IgnoredWord as WordOf};
+ghost use Rattle.dn_world.specs.Sound.{AreOfGroup};
+ghost use Rattle.dn_world.specs.Members.{core_at, server_member};
+ghost use Rattle.dn_world.specs.Calling.{IsAnswerTo, KeepsRules, NotesSum, CallsServer, TicksAll, PutsToServers, without_from};
 
 use crate::acting::act_on;
 use crate::putting::{Sender, put};
 use crate::state::State;
 use crate::words::{accuse_word, submit_word};
-use dn_client::{Client, Submission};
+use dn_audit::Auditor;
+use dn_client::{AccuseFault, Client, Submission};
 use dn_exchange::ServerCore;
 use dn_flight::Flight;
 use dn_memory::NoMemory;
@@ -32,13 +40,14 @@ pub enum Call {
     Abandon,
 }
 
-#[tactic(auto, using(dn_exchange::proofs::SeatStays::opens_seat, dn_exchange::proofs::SeatStays::ticks_seat, dn_exchange::proofs::SeatStays::shuts_seat, dn_exchange::proofs::SeatStays::abandons_seat))]
+/// What a server answers to a call.
 fn answer_of<R: Threads + Sync>(
     rt: &R,
     core: &mut ServerCore,
     call: Call,
 ) -> Result<Answer, NoMemory>
-    ensures seat { OnOk result (core.new.seat ≡ core.old.seat) }
+    ensures answers { IfOk result (λ a. IsAnswerTo call core.old a core.new) }
+    ensures rules { OnOk result (KeepsRules core.old core.new) }
 {
     match call {
         Call::Open(r) => core.open_round(r),
@@ -48,39 +57,49 @@ fn answer_of<R: Threads + Sync>(
     }
 }
 
-/// Notes the ciphertext that a server made for its round.
-pub fn note_sum(state: &mut State, server: ServerId) -> Result<(), NoMemory>
-    ensures { state.new ≡ state.old }
+/// Tells the auditor the ciphertext that a server made for its round, if it made one.
+pub fn note_sum(auditor: &mut Auditor, core: &ServerCore, server: ServerId) -> Result<(), NoMemory>
+    ensures { OnOk result (NotesSum server core.now.run.r core.now.run.sum auditor.old auditor.new) }
 {
-    if let Some(Some(core)) = state.servers.get(server.0 as usize) {
-        if let Some(sum) = core.sum() {
-            state.auditor.add_sum(core.last_opened(), server, sum)?;
-        }
-    }
-    Ok(())
-}
-
-/// The round that a server opened last.
-pub fn last_of(state: &State, server: ServerId) -> Round {
-    match state.servers.get(server.0 as usize) {
-        Some(Some(core)) => core.last_opened(),
-        _ => Round(0),
+    match core.sum() {
+        Some(sum) => auditor.add_sum(core.last_opened(), server, sum),
+        None => Ok(()),
     }
 }
 
 /// Takes a server out of its place.
 pub fn take_server(servers: &mut Vec<Option<ServerCore>>, server: ServerId) -> Option<ServerCore>
-    ensures { (roster : RosterView) → AreOfGroup roster servers.old.items
+    ensures group { (roster : RosterView) → AreOfGroup roster servers.old.items
         → AreOfGroup roster servers.new.items × IfSome result (λ v. v.seat.roster ≡ roster) }
+    ensures taken { result ≡ core_at servers.old.items server.0 }
+    ensures left { servers.new.items ≡ slice_set servers.old.items server.0 None }
 {
     servers.get_mut(server.0 as usize)?.take()
 }
 
 /// Puts a server into its place.
 pub fn put_server(servers: &mut Vec<Option<ServerCore>>, server: ServerId, core: ServerCore)
-    ensures { (roster : RosterView) → AreOfGroup roster servers.old.items → core.seat.roster ≡ roster → AreOfGroup roster servers.new.items }
+    ensures group { (roster : RosterView) → AreOfGroup roster servers.old.items → core.seat.roster ≡ roster → AreOfGroup roster servers.new.items }
+    ensures put { servers.new.items ≡ slice_set servers.old.items server.0 (Some core) }
 {
     if let Some(place) = servers.get_mut(server.0 as usize) {
+        *place = Some(core);
+    }
+}
+
+/// Takes a client out of its place.
+pub fn take_client(clients: &mut Vec<Option<Client>>, client: ClientId) -> Option<Client>
+    ensures taken { result ≡ core_at clients.old.items client.0 }
+    ensures left { clients.new.items ≡ slice_set clients.old.items client.0 None }
+{
+    clients.get_mut(client.0 as usize)?.take()
+}
+
+/// Puts a client into its place.
+pub fn put_client(clients: &mut Vec<Option<Client>>, client: ClientId, core: Client)
+    ensures { clients.new.items ≡ slice_set clients.old.items client.0 (Some core) }
+{
+    if let Some(place) = clients.get_mut(client.0 as usize) {
         *place = Some(core);
     }
 }
@@ -93,15 +112,16 @@ pub fn call_server<R: Threads + Sync>(
     call: Call,
     outcomes: &mut Vec<Outcome>,
 ) -> Result<(), NoMemory>
-    ensures { state.new ≡ state.old }
+    ensures roster { state.new.roster ≡ state.old.roster }
+    ensures calls { OnOk result ((lines : List OutcomeOf) × CallsServer call server state.old state.new lines × (outcomes.new.items ≡ outcomes.old.items ++ lines)) }
 {
     let Some(mut core) = take_server(&mut state.servers, server) else {
         return Ok(());
     };
     let answer = answer_of(rt, &mut core, call)?;
+    note_sum(&mut state.auditor, &core, server)?;
+    let last = core.last_opened();
     put_server(&mut state.servers, server, core);
-    note_sum(state, server)?;
-    let last = last_of(state, server);
     act_on(state, server, last, &answer, outcomes)
 }
 
@@ -111,7 +131,8 @@ pub fn tick<R: Threads + Sync>(
     state: &mut State,
     outcomes: &mut Vec<Outcome>,
 ) -> Result<(), NoMemory>
-    ensures { state.new ≡ state.old }
+    ensures roster { state.new.roster ≡ state.old.roster }
+    ensures ticks { OnOk result ((lines : List OutcomeOf) × TicksAll state.old state.new lines × (outcomes.new.items ≡ outcomes.old.items ++ lines)) }
 {
     for j in 0..state.payloads.roster().servers() {
         call_server(rt, state, ServerId(j), Call::Tick, outcomes)?;
@@ -120,13 +141,17 @@ pub fn tick<R: Threads + Sync>(
 }
 
 /// The bytes of a plain payload.
-pub fn plain_bytes(alloc: Global, envelope: Vec<u8>) -> Result<Vec<u8>, NoMemory> {
+pub fn plain_bytes(alloc: Global, envelope: Vec<u8>) -> Result<Vec<u8>, NoMemory>
+    ensures { IfOk result (λ v. v.items ≡ payload_bytes (payloads.Plain envelope.items)) }
+{
     let envelope = Bytes::of(envelope);
     encode_payload(alloc, &Payload::Plain { envelope })
 }
 
 /// All servers, by number.
-pub fn all_servers(alloc: Global, servers: u32) -> Result<Vec<Member>, NoMemory> {
+pub fn members_of(alloc: Global, servers: u32) -> Result<Vec<Member>, NoMemory>
+    ensures { IfOk result (λ v. v.items ≡ map server_member (below servers)) }
+{
     let mut members = Vec::new(alloc);
     for j in 0..servers {
         members.push(Member::Server(ServerId(j)))?;
@@ -141,10 +166,11 @@ pub fn put_to_servers(
     envelope: Vec<u8>,
     outcomes: &mut Vec<Outcome>,
 ) -> Result<(), NoMemory>
-    ensures { state.new ≡ state.old }
+    ensures roster { state.new.roster ≡ state.old.roster }
+    ensures puts { OnOk result ((lines : List OutcomeOf) × PutsToServers client envelope.items state.old state.new lines × (outcomes.new.items ≡ outcomes.old.items ++ lines)) }
 {
     let bytes = plain_bytes(state.alloc, envelope)?;
-    let to = all_servers(state.alloc, state.payloads.roster().servers())?;
+    let to = members_of(state.alloc, state.payloads.roster().servers())?;
     let sender = Sender {
         member: Member::Client(client),
         is_own: true,
@@ -153,7 +179,9 @@ pub fn put_to_servers(
 }
 
 /// The line for a word, or want of memory for none.
-pub fn ignore(word: Option<IgnoredWord>, outcomes: &mut Vec<Outcome>) -> Result<(), NoMemory> {
+pub fn ignore(word: Option<IgnoredWord>, outcomes: &mut Vec<Outcome>) -> Result<(), NoMemory>
+    ensures { OnOk result ((why : WordOf) × (word ≡ Some why) × (outcomes.new.items ≡ outcomes.old.items ++ OutcomeOf.Ignored why ∷ [])) }
+{
     match word {
         Some(word) => {
             outcomes.push(Outcome::Ignored(word))?;
@@ -166,6 +194,7 @@ pub fn ignore(word: Option<IgnoredWord>, outcomes: &mut Vec<Outcome>) -> Result<
 /// The bytes of a submission's payload.
 fn submission_bytes(alloc: Global, submission: Submission) -> Result<Vec<u8>, NoMemory>
     requires { length submission.cipher ≤ MAX_BITS }
+    ensures { IfOk result (λ v. v.items ≡ payload_bytes (payloads.Submission submission.cipher submission.envelope)) }
 {
     let Submission { envelope, cipher } = submission;
     encode_payload(alloc, &Payload::Submission { cipher, envelope })
@@ -180,7 +209,7 @@ pub fn submit(
     outcomes: &mut Vec<Outcome>,
 ) -> Result<(), NoMemory>
     requires { r.0 ≢ 0 }
-    ensures { state.new ≡ state.old }
+    ensures roster { state.new.roster ≡ state.old.roster }
 {
     let submission = match state.clients.get_mut(client.0 as usize) {
         Some(Some(core)) => match core.submission(r) {
@@ -197,6 +226,22 @@ pub fn submit(
     put(state, sender, &[Member::Server(server)], &bytes, outcomes)
 }
 
+/// An honest client's accusation; none where it is corrupt or out of range.
+fn accusation_of(
+    clients: &mut Vec<Option<Client>>,
+    client: ClientId,
+    r: Round,
+    k: u32,
+) -> Result<Option<Vec<u8>>, AccuseFault> {
+    match clients.get_mut(client.0 as usize) {
+        Some(Some(core)) => match core.accuse(r, k) {
+            Ok(envelope) => Ok(Some(envelope)),
+            Err(fault) => Err(fault),
+        },
+        _ => Ok(None),
+    }
+}
+
 /// A client's accusation is put to every server.
 pub fn accuse(
     state: &mut State,
@@ -205,35 +250,57 @@ pub fn accuse(
     k: u32,
     outcomes: &mut Vec<Outcome>,
 ) -> Result<(), NoMemory>
-    ensures { state.new ≡ state.old }
+    ensures roster { state.new.roster ≡ state.old.roster }
 {
-    let envelope = match state.clients.get_mut(client.0 as usize) {
-        Some(Some(core)) => match core.accuse(r, k) {
-            Ok(envelope) => envelope,
-            Err(fault) => return ignore(accuse_word(fault), outcomes),
-        },
-        _ => return Ok(()),
-    };
-    put_to_servers(state, client, envelope, outcomes)
+    match accusation_of(&mut state.clients, client, r, k) {
+        Ok(Some(envelope)) => put_to_servers(state, client, envelope, outcomes),
+        Ok(None) => Ok(()),
+        Err(fault) => ignore(accuse_word(fault), outcomes),
+    }
 }
 
-/// A text joins a client's queue.
-pub fn say(state: &mut State, client: ClientId, text: &[u8]) -> Result<(), NoMemory>
+/// A text joins an honest client's queue, if there is such a client.
+fn say_to(clients: &mut Vec<Option<Client>>, client: ClientId, text: &[u8]) -> Result<(), NoMemory>
     requires { length text.now ≤ MAX_TEXT }
-    ensures { state.new ≡ state.old }
 {
-    match state.clients.get_mut(client.0 as usize) {
+    match clients.get_mut(client.0 as usize) {
         Some(Some(core)) => core.say(text),
         _ => Ok(()),
     }
 }
 
+/// A text joins a client's queue.
+pub fn say(state: &mut State, client: ClientId, text: &[u8]) -> Result<(), NoMemory>
+    requires { length text.now ≤ MAX_TEXT }
+    ensures roster { state.new.roster ≡ state.old.roster }
+{
+    say_to(&mut state.clients, client, text)
+}
+
 /// Takes all messages of a member out of flight, and tells how many.
 fn drop_from<L: Ledger>(flight: &mut Flight, member: Member, blank: Blank) -> u32
     requires { (blank.name ≡ L.name) × (blank.parts ≡ L.parts) × (0 < L.parts) }
+    ensures left { flight.new ≡ without_from member flight.old }
+    ensures count { result ≡ count_by (is_from member) flight.old.msgs }
 {
     let mut steps: Steps<L> = Steps::none(blank);
     flight.drop_from(member, &mut steps)
+}
+
+/// An honest client's core leaves, if there is such a client.
+fn leave_core(clients: &mut Vec<Option<Client>>, client: ClientId) {
+    if let Some(Some(core)) = clients.get_mut(client.0 as usize) {
+        core.leave();
+    }
+}
+
+/// Notes that a client has left.
+fn note_left(left: &mut Vec<bool>, client: ClientId)
+    ensures { left.new.items ≡ slice_set left.old.items client.0 true }
+{
+    if let Some(flag) = left.get_mut(client.0 as usize) {
+        *flag = true;
+    }
 }
 
 /// A client leaves, and its messages in flight are dropped.
@@ -242,14 +309,10 @@ pub fn leave(
     client: ClientId,
     outcomes: &mut Vec<Outcome>,
 ) -> Result<(), NoMemory>
-    ensures { state.new ≡ state.old }
+    ensures roster { state.new.roster ≡ state.old.roster }
 {
-    if let Some(Some(core)) = state.clients.get_mut(client.0 as usize) {
-        core.leave();
-    }
-    if let Some(left) = state.left.get_mut(client.0 as usize) {
-        *left = true;
-    }
+    leave_core(&mut state.clients, client);
+    note_left(&mut state.left, client);
     let member = Member::Client(client);
     let count = drop_from::<Brand>(&mut state.flight, member, Blank::new(1));
     outcomes.push(Outcome::Dropped { count })?;

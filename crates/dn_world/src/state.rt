@@ -36,12 +36,13 @@ pub struct State {
 }
 
 impl Model for State {
-    ghost use Rattle.dn_roster.specs.Roster.{RosterView};
-    ghost use Rattle.dn_world.specs.Sound.{IsSound};
+    ghost use Rattle.dn_world.specs.Parts.{PartsView};
 
-    ghost Value = { RosterView };
+    ghost Value = { PartsView };
 
-    ghost view = { λ s. s.payloads.roster };
+    ghost use Rattle.dn_world.specs.Inside.{parts_of, Keeps};
 
-    ghost invariant = { λ s. IsSound s.payloads.roster s.servers.items s.heard.items };
+    ghost view = { parts_of };
+
+    ghost invariant = { Keeps };
 }

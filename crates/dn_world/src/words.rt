@@ -1,11 +1,17 @@
 // The words of a report for what cores answer.
+ghost use Rattle.std.specs.Prelude.{◌≡◌};
+ghost use Rattle.dn_world.specs.Words.{ignored_word_of, spoil_word_of, blame_word_of, unopened_word_of, submit_word_of, hold_word_of, accuse_word_of, answer_word_of};
+
 use dn_client::{AccuseFault, AnswerFault, HoldFault, SubmitFault};
 use dn_payloads::Content;
 use dn_report::{BlameWord, IgnoredWord, SpoilWord, UnopenedWord};
 use dn_server::{Reason, SpoilReason};
 use dn_trace::Fault;
 
-pub fn ignored_word(reason: Reason) -> IgnoredWord {
+/// The word for why a server ignores what it is told.
+pub fn ignored_word(reason: Reason) -> IgnoredWord
+    ensures { result ≡ ignored_word_of reason }
+{
     match reason {
         Reason::Old => IgnoredWord::Old,
         Reason::Running => IgnoredWord::Running,
@@ -26,7 +32,10 @@ pub fn ignored_word(reason: Reason) -> IgnoredWord {
     }
 }
 
-pub fn spoil_word(reason: SpoilReason) -> SpoilWord {
+/// The word for why a server's round is spoiled.
+pub fn spoil_word(reason: SpoilReason) -> SpoilWord
+    ensures { result ≡ spoil_word_of reason }
+{
     match reason {
         SpoilReason::Twice => SpoilWord::Twice,
         SpoilReason::Prev => SpoilWord::Prev,
@@ -37,7 +46,10 @@ pub fn spoil_word(reason: SpoilReason) -> SpoilWord {
     }
 }
 
-pub fn blame_word(fault: Fault) -> BlameWord {
+/// The word for why a member is blamed.
+pub fn blame_word(fault: Fault) -> BlameWord
+    ensures { result ≡ blame_word_of fault }
+{
     match fault {
         Fault::Twice => BlameWord::Twice,
         Fault::Entry => BlameWord::Entry,
@@ -53,7 +65,9 @@ pub fn blame_word(fault: Fault) -> BlameWord {
 }
 
 /// The word for why a payload doesn't open; nothing where it opens.
-pub fn unopened_word(content: &Content) -> Option<UnopenedWord> {
+pub fn unopened_word(content: &Content) -> Option<UnopenedWord>
+    ensures { result ≡ unopened_word_of content.now }
+{
     match content {
         Content::Opened(_) => None,
         Content::Form => Some(UnopenedWord::Form),
@@ -63,7 +77,9 @@ pub fn unopened_word(content: &Content) -> Option<UnopenedWord> {
 }
 
 /// The word for why a client submits nothing; nothing where memory failed it.
-pub fn submit_word(fault: SubmitFault) -> Option<IgnoredWord> {
+pub fn submit_word(fault: SubmitFault) -> Option<IgnoredWord>
+    ensures { result ≡ submit_word_of fault }
+{
     match fault {
         SubmitFault::Left => Some(IgnoredWord::Left),
         SubmitFault::Old { .. } => Some(IgnoredWord::Old),
@@ -73,7 +89,9 @@ pub fn submit_word(fault: SubmitFault) -> Option<IgnoredWord> {
 }
 
 /// The word for why a client doesn't hold a certificate.
-pub fn hold_word(fault: HoldFault) -> Option<IgnoredWord> {
+pub fn hold_word(fault: HoldFault) -> Option<IgnoredWord>
+    ensures { result ≡ hold_word_of fault }
+{
     match fault {
         HoldFault::Left => Some(IgnoredWord::Left),
         HoldFault::Known { .. } => Some(IgnoredWord::Known),
@@ -85,7 +103,9 @@ pub fn hold_word(fault: HoldFault) -> Option<IgnoredWord> {
 }
 
 /// The word for why a client doesn't accuse.
-pub fn accuse_word(fault: AccuseFault) -> Option<IgnoredWord> {
+pub fn accuse_word(fault: AccuseFault) -> Option<IgnoredWord>
+    ensures { result ≡ accuse_word_of fault }
+{
     match fault {
         AccuseFault::Left => Some(IgnoredWord::Left),
         AccuseFault::NoCert { .. } => Some(IgnoredWord::Cert),
@@ -97,7 +117,9 @@ pub fn accuse_word(fault: AccuseFault) -> Option<IgnoredWord> {
 }
 
 /// The word for why a client doesn't answer a challenge.
-pub fn answer_word(fault: AnswerFault) -> Option<IgnoredWord> {
+pub fn answer_word(fault: AnswerFault) -> Option<IgnoredWord>
+    ensures { result ≡ answer_word_of fault }
+{
     match fault {
         AnswerFault::Left => Some(IgnoredWord::Left),
         AnswerFault::NoCert { .. } | AnswerFault::NotListed { .. } => Some(IgnoredWord::Cert),

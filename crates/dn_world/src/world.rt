@@ -1,11 +1,16 @@
-ghost use Rattle.std.specs.Prelude.{◌≡◌, ◌<◌, ◌≤◌, ◌++◌, ◌∷◌, [], List, IfOk, IfSome, OnOk, OnErr};
+// A run of a group.
+ghost use Rattle.std.specs.Prelude.{◌≡◌, ◌<◌, ◌≤◌, ◌++◌, ◌∷◌, [], List, None, Some, true, false, IfOk, IfSome, OnOk, OnErr};
+ghost use Rattle.dn_wire.specs.declared.ids.Member.{Member as MemberOf};
 ghost use Rattle.dn_report.specs.declared.outcome.Outcome.{Outcome as OutcomeOf};
 ghost use Rattle.dn_seal.specs.Said.{IsUnder};
+ghost use Rattle.dn_audit.specs.Group.{is_corrupt};
 ghost use Rattle.dn_world.specs.Sound.{AreOfGroup, IsOfGroup, IsOfRoster};
 ghost use Rattle.dn_world.specs.Events.{IsWithinLimits};
+ghost use Rattle.dn_world.specs.Delivering.{without_msg};
+ghost use Rattle.dn_world.specs.Beginning.{server_place, first_servers};
 
 use crate::calling::{Call, accuse, call_server, leave, say, submit, tick};
-use crate::delivering::{deliver, is_early};
+use crate::delivering::{deliver, is_early, opened_in};
 use crate::judging::judge_place;
 use crate::putting::{Sender, put};
 use crate::state::State;
@@ -16,8 +21,9 @@ use dn_client::Client;
 use dn_exchange::ServerCore;
 use dn_flight::Flight;
 use dn_memory::NoMemory;
-use dn_payloads::{Content, Payloads};
+use dn_payloads::Payloads;
 use dn_report::{Event, Outcome};
+use dn_roster::{GroupSpec, pair_seed};
 use dn_seal::{Dealt, Said};
 use dn_wire::{ClientId, Member, Round, ServerId};
 use std::alloc::Global;
@@ -47,7 +53,22 @@ impl Model for World {
 
     ghost Value = { WorldView };
 
-    ghost view = { λ w. record { roster = w.state; history = w.history.items } };
+    ghost view = { λ w. record { roster = w.state.roster; history = w.history.items } };
+}
+
+/// The core of a client; none where it is corrupt.
+fn honest_client(
+    alloc: Global,
+    dealt: &Dealt,
+    group: &Group,
+    client: ClientId,
+) -> Result<Option<Client>, NoMemory>
+    requires within { client.0 < dealt.now.spec.clients }
+{
+    if group.is_corrupt(Member::Client(client)) {
+        return Ok(None);
+    }
+    Ok(Some(Client::make(alloc, dealt, client)?))
 }
 
 /// The cores of the clients that aren't corrupt.
@@ -58,13 +79,7 @@ fn honest_clients(
 ) -> Result<Vec<Option<Client>>, NoMemory> {
     let mut clients = Vec::new(alloc);
     for i in 0..dealt.spec.clients {
-        let member = ClientId(i);
-        let core = if group.is_corrupt(Member::Client(member)) {
-            None
-        } else {
-            Some(Client::make(alloc, dealt, member)?)
-        };
-        clients.push(core)?;
+        clients.push(honest_client(alloc, dealt, group, ClientId(i))?)?;
     }
     Ok(clients)
 }
@@ -80,7 +95,8 @@ fn honest_server(
     requires within { server.0 < dealt.now.spec.servers }
     requires some { 1 ≤ workers }
     requires few { workers ≤ 16 }
-    ensures { IfOk result (IsOfRoster dealt.now.roster) }
+    ensures roster { IfOk result (IsOfRoster dealt.now.roster) }
+    ensures place { IfOk result (λ core. core ≡ server_place dealt.now.spec dealt.now.roster workers server.0 (is_corrupt group.now (MemberOf.Server server))) }
 {
     if group.is_corrupt(Member::Server(server)) {
         return Ok(None);
@@ -97,7 +113,8 @@ fn honest_servers(
 ) -> Result<Vec<Option<ServerCore>>, NoMemory>
     requires some { 1 ≤ workers }
     requires few { workers ≤ 16 }
-    ensures { IfOk result (λ v. AreOfGroup dealt.now.roster v.items) }
+    ensures group { IfOk result (λ v. AreOfGroup dealt.now.roster v.items) }
+    ensures first { IfOk result (λ v. v.items ≡ first_servers dealt.now.spec dealt.now.roster workers group.now dealt.now.spec.servers) }
 {
     let mut servers = Vec::new(alloc);
     for j in 0..dealt.spec.servers {
@@ -106,17 +123,20 @@ fn honest_servers(
     Ok(servers)
 }
 
+/// Tells the audit the seeds that were dealt to a client, by server.
+fn add_seeds(auditor: &mut Auditor, spec: &GroupSpec, client: ClientId) -> Result<(), NoMemory> {
+    for j in 0..spec.servers {
+        let server = ServerId(j);
+        auditor.add_seed(client, server, &pair_seed(spec, client, server))?;
+    }
+    Ok(())
+}
+
 /// The audit before anything is put: it knows the seeds that were dealt.
-fn auditor_of(alloc: Global, dealt: &Dealt) -> Result<Auditor, NoMemory> {
+fn auditor_of(alloc: Global, spec: &GroupSpec) -> Result<Auditor, NoMemory> {
     let mut auditor = Auditor::make(alloc);
-    let servers = dealt.spec.servers;
-    for i in 0..dealt.spec.clients {
-        for j in 0..servers {
-            let place = u64::from(i) * u64::from(servers) + u64::from(j);
-            if let Some(seed) = dealt.seeds.get(place as usize) {
-                auditor.add_seed(ClientId(i), ServerId(j), seed)?;
-            }
-        }
+    for i in 0..spec.clients {
+        add_seeds(&mut auditor, spec, ClientId(i))?;
     }
     Ok(auditor)
 }
@@ -129,7 +149,7 @@ fn state_of(
 ) -> Result<State, NoMemory>
     requires some { 1 ≤ workers }
     requires few { workers ≤ 16 }
-    ensures { IfOk result (λ s. s ≡ dealt.now.roster) }
+    ensures roster { IfOk result (λ s. s.roster ≡ dealt.now.roster) }
 {
     let clients = dealt.spec.clients;
     let group = Group::make(alloc, &dealt.owners, clients, dealt.spec.servers, corrupt)?;
@@ -146,8 +166,15 @@ fn state_of(
         heard: Vec::new(alloc),
         delivered: BTreeSet::new(alloc),
         accused: BTreeMap::new(alloc),
-        auditor: auditor_of(alloc, dealt)?,
+        auditor: auditor_of(alloc, &dealt.spec)?,
     })
+}
+
+/// Loses a message.
+fn lose(flight: &mut Flight, id: u64)
+    ensures { flight.new ≡ without_msg flight.old id }
+{
+    flight.lose(id);
 }
 
 /// Carries an event out.
@@ -158,7 +185,7 @@ fn carry_out<R: Threads + Sync>(
     outcomes: &mut Vec<Outcome>,
 ) -> Result<(), NoMemory>
     requires { IsWithinLimits event.now }
-    ensures { state.new ≡ state.old }
+    ensures roster { state.new.roster ≡ state.old.roster }
 {
     match event {
         Event::Say { client, text } => say(state, *client, text.get()),
@@ -170,7 +197,7 @@ fn carry_out<R: Threads + Sync>(
         Event::Submit { client, server, r } => submit(state, *client, *server, *r, outcomes),
         Event::Deliver { id } => deliver(rt, state, *id, outcomes),
         Event::Lose { id } => {
-            state.flight.lose(*id);
+            lose(&mut state.flight, *id);
             Ok(())
         }
         Event::Tick => tick(rt, state, outcomes),
@@ -252,10 +279,7 @@ impl World {
     pub fn opened(&self, p: u64) -> Option<&Opened>
         ensures group { IfSome result (λ o. IsOfGroup self.now.roster o.now) }
     {
-        match self.state.payloads.content(p) {
-            Some(Content::Opened(opened)) => Some(opened),
-            _ => None,
-        }
+        opened_in(&self.state.payloads, p)
     }
 
     /// What plain payload `p` says; None exactly where `p` isn't below their number, doesn't open, or isn't plain.
@@ -283,6 +307,7 @@ impl World {
         &self.state.chain
     }
 
+    /// Whether a member is corrupt. Who isn't in the group isn't.
     pub fn is_corrupt(&self, member: Member) -> bool {
         self.state.group.is_corrupt(member)
     }

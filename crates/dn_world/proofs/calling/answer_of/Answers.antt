@@ -1,17 +1,26 @@
-use Rattle.std.proofs.Common.{◌≡◌}
+use Rattle.std.proofs.Common.{sym, subst}
+use Rattle.std.specs.Prelude.{IfOk}
 use Rattle.dn_exchange.specs.Closing.{Ticks, Shuts}
-use Rattle.dn_exchange.proofs.SeatStays.{ticks_seat, shuts_seat}
-use Rattle.dn_world.proofs.Sounds.{then_ok}
+use Rattle.dn_world.specs.Calling.{IsAnswerTo}
+use Rattle.dn_world.proofs.AnswerLemmas.{due_of, rules_of}
 use Rattle.dn_world.proofs.calling.answer_of.Goals as goal
 
-pub returns-in-Tick : goal.returns-in-Tick
-returns-in-Tick g c =
-    let old = c.args.core.now in
-    let new = c.tick.new.self in
-    record { seat = then_ok c.tick.result (λ a. Ticks old a new) (new.seat ≡ old.seat) c.tick.ensures.answer (λ a is. ticks_seat old a new is) }
+pub returns-in-Tick-clause-answers : goal.returns-in-Tick-clause-answers
+returns-in-Tick-clause-answers g c =
+    let after = c.tick.new.self in
+    subst (λ call. IfOk c.tick.result (λ a. IsAnswerTo call c.args.core.now a after)) (sym c.in-Tick.is)
+    (due_of c.tick.result (λ a. Ticks c.args.core.now a after) after c.tick.ensures.answer c.tick.ensures.bodies)
 
-pub returns-in-Close : goal.returns-in-Close
-returns-in-Close g c =
-    let old = c.args.core.now in
-    let new = c.close.new.self in
-    record { seat = then_ok c.close.result (λ a. Shuts old a new) (new.seat ≡ old.seat) c.close.ensures.answer (λ a is. shuts_seat old a new is) }
+pub returns-in-Tick-clause-rules : goal.returns-in-Tick-clause-rules
+returns-in-Tick-clause-rules g c =
+    rules_of c.tick.result c.args.core.now c.tick.new.self c.tick.ensures.seat c.tick.ensures.bent c.tick.ensures.disciplined c.tick.ensures.settled
+
+pub returns-in-Close-clause-answers : goal.returns-in-Close-clause-answers
+returns-in-Close-clause-answers g c =
+    let after = c.close.new.self in
+    subst (λ call. IfOk c.close.result (λ a. IsAnswerTo call c.args.core.now a after)) (sym c.in-Close.is)
+    (due_of c.close.result (λ a. Shuts c.args.core.now a after) after c.close.ensures.answer c.close.ensures.bodies)
+
+pub returns-in-Close-clause-rules : goal.returns-in-Close-clause-rules
+returns-in-Close-clause-rules g c =
+    rules_of c.close.result c.args.core.now c.close.new.self c.close.ensures.seat c.close.ensures.bent c.close.ensures.disciplined c.close.ensures.settled

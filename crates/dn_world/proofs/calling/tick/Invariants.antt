@@ -1,5 +1,13 @@
-use Rattle.std.proofs.Common.{◌≡◌}
+use Rattle.std.proofs.Common.{◌≡◌, ◌++◌, List}
+use Rattle.dn_bits.specs.Bits.{below}
+use Rattle.dn_report.specs.declared.outcome.Outcome.{Outcome}
+use Rattle.dn_world.specs.declared.calling.Call.TheVariants as calls
+use Rattle.dn_world.specs.Doing.{InTurn}
+use Rattle.dn_world.specs.Calling.{CallsServer}
 use Rattle.dn_world.proofs.calling.tick.Given as goal
 
 abbrev pub invariant-loop-j : goal.invariant-loop-j
-invariant-loop-j g l = l.state ≡ l.initial.state
+invariant-loop-j g l = record {
+  roster : l.state.roster ≡ l.initial.state.roster;
+  ticks : (lines : List Outcome) × InTurn (λ j. CallsServer calls.Tick record { 0 = j }) (below l.j) l.initial.state l.state lines × (l.outcomes.items ≡ l.initial.outcomes.items ++ lines);
+}

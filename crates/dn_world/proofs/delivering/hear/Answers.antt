@@ -1,13 +1,22 @@
-use Rattle.std.proofs.Common.{rules, ◌≡◌, sym, subst}
+use Rattle.std.proofs.Common.{◌≡◌, sym, subst}
+use Rattle.std.specs.Prelude.{All}
+use Rattle.std.proofs.lemmas.List.Elements.{All-append}
 use Rattle.dn_seal.specs.Said.{IsUnder}
-use Rattle.dn_world.specs.Sound.{IsSound}
-use Rattle.dn_world.proofs.Sounds.{found_front, heard_more}
+use Rattle.dn_payloads.specs.Payloads.{IsContent}
+use Rattle.dn_world.specs.Delivering.{client_said}
+use Rattle.dn_world.proofs.PuttingLemmas.{by_result}
+use Rattle.dn_world.proofs.DeliverLemmas.{client_under}
 use Rattle.dn_world.proofs.delivering.hear.Goals as goal
 
-pub invariant_of-state-in_default-signer : goal.invariant_of-state-in_default-signer
-invariant_of-state-in_default-signer c =
-    let parts = c.state.inside in
-    let under = found_front parts.payloads c.args.payload c.in-Some.content.now c.in-Some-said_in.said.now c.in-Some.ensures c.in-Some-said_in.ensures in
-    subst (λ xs. IsSound parts.payloads.roster parts.servers.items xs) (sym c.in_ok-push-in_default-signer.ensures.items)
-    (heard_more parts.payloads.roster parts.servers.items parts.heard.items c.in_ok-copy-in_default-signer.field-0 c.state.invariant
-    (subst (IsUnder parts.payloads.roster) (sym c.in_ok-copy-in_default-signer.ensures.same) under))
+pub invariant_of-state-in-Some : goal.invariant_of-state-in-Some
+invariant_of-state-in-Some c =
+    let inside = c.state.inside in
+    let roster = inside.payloads.roster in
+    let found = c.in-Some.ensures in
+    let content = c.in-Some.content.now in
+    let more = client_under roster found.0.bytes content (subst (IsContent roster found.0.bytes) found.2 found.3) in
+    record {
+      of_group = c.state.invariant.of_group;
+      said = by_result c.hear_client.result (All (IsUnder roster)) c.hear_client.new.heard.items _ inside.heard.items c.hear_client.ensures.heard c.hear_client.ensures.same
+          (All-append (IsUnder roster) inside.heard.items (client_said content) c.state.invariant.said more) c.state.invariant.said;
+    }

@@ -1,5 +1,10 @@
+use Rattle.std.proofs.Common.{◌≡◌}
 use Rattle.dn_world.specs.Sound.{AreOfGroup}
+use Rattle.dn_world.specs.Beginning.{first_servers}
 use Rattle.dn_world.proofs.world.honest_servers.Given as goal
 
 abbrev pub invariant-loop-j : goal.invariant-loop-j
-invariant-loop-j l = AreOfGroup l.dealt.roster l.servers.items
+invariant-loop-j l = record {
+  of_group : AreOfGroup l.dealt.roster l.servers.items;
+  first : l.servers.items ≡ first_servers l.dealt.spec l.dealt.roster l.workers l.group l.j;
+}
