@@ -173,6 +173,52 @@ print("flow 6")
 print("end")'
 }
 
+# The script of a first round of a group of 256 clients and 16 servers, and so many rounds in which each client speaks in its slot.
+spoken_rounds() { # ROUNDS
+    python3 -c '
+import sys
+rounds = int(sys.argv[1]) + 1
+print("group 256 16 3 5 6", "%064x" % 7)
+for _ in range(rounds):
+    for i in range(256): print("say", f"c{i}", "68656c6c6f")
+for r in range(1, rounds + 1):
+    for j in range(16): print("open", f"s{j}", r)
+    for i in range(256): print("submit", f"c{i}", f"s{i % 16}", r)
+    print("flow 1")
+    for j in range(16): print("close", f"s{j}")
+    print("flow 6")
+print("end")' "$1"
+}
+
+# Checks reports as an outsider does: how many times as long one of twice as many rounds takes; how many times as long as its signature
+# checks alone, which another program times; and how much memory.
+outsider() { # PROGRAM
+    local one two checks size seconds memory ratio
+    for rounds in 4 8; do
+        spoken_rounds "$rounds" > "$work/script"
+        "$1" run < "$work/script" > "$work/report.$rounds"
+    done
+    one=1e9 two=1e9 checks=1e9
+    for _ in 1 2 3; do
+        read -r seconds memory <<< "$(measured 1 "$work/report.4" "$work/ours" "$1" verify)"
+        one=$(least "$one" "$seconds")
+        read -r seconds memory <<< "$(measured 1 "$work/report.8" "$work/ours" "$1" verify)"
+        two=$(least "$two" "$seconds")
+        "$bench" report 256 16 3 5 6 7 < "$work/report.8" > "$work/theirs" 2> "$work/seconds"
+        checks=$(least "$checks" "$(cut -d' ' -f2 "$work/seconds")")
+    done
+    size=$(python3 -c 'import os, sys; print("%.2f" % (os.path.getsize(sys.argv[2]) / os.path.getsize(sys.argv[1])))' "$work/report.4" "$work/report.8")
+    ratio=$(python3 -c 'import sys; print("%.2f" % (float(sys.argv[1]) / float(sys.argv[2]) * 2 / float(sys.argv[3])))' "$two" "$one" "$size")
+    echo "dissent verify, a report twice as long ($size times $(stat -c %s "$work/report.4") bytes): $two s, $ratio times $one s, $(verdict "$ratio" 2.2)"
+    at_most "$ratio" 2.2 || broken=1
+    ratio=$(python3 -c 'import sys; print("%.2f" % (float(sys.argv[1]) / float(sys.argv[2])))' "$two" "$checks")
+    echo "dissent verify, to its signature checks alone: $two s, $ratio times $checks s, $(verdict "$ratio" 2)"
+    at_most "$ratio" 2 || broken=1
+    ratio=$(python3 -c 'import os, sys; print("%.2f" % (float(sys.argv[1]) * 1048576 / os.path.getsize(sys.argv[2])))' "$memory" "$work/report.8")
+    echo "dissent verify, memory: $memory MB, $ratio times the report, $(verdict "$ratio" 4)"
+    at_most "$ratio" 4 || broken=1
+}
+
 peer=
 if [ ! -d "$peer_sources" ]; then
     echo "plain Rust: skipped, no folder $peer_sources"
@@ -241,7 +287,7 @@ fi
 
 # A round through the cores of all servers: how many times as long it takes as its signature checks alone.
 # A server signs 32 receipts and four statements of the round, so its key needs more than 32 leaves.
-ratio 'a round of 512 clients and 16 servers, to its signature checks' 1.3 1 round 'round 512 16 3 5 6 1' checks 'round 512 16 3 5 6 1'
+ratio 'a round of 512 clients and 16 servers, to its signature checks' 1.3 3 round 'round 512 16 3 5 6 1' checks 'round 512 16 3 5 6 1'
 
 # The greatest plain round: every other client says something, so that the script stays within its limit.
 if [ -d "$top/crates/dissent" ]; then
@@ -259,6 +305,7 @@ print("end")' > "$work/script"
     "$dissent" gen 7 > "$work/script"
     against 'dissent run, the large script, to the deal alone' 1.3 5 "$work/script" "$dissent run" "$bench deal 48 3 3 5 6 7"
     against 'dissent demo 7, to the deal alone' 1.3 5 /dev/null "$dissent demo 7" "$bench deal 48 3 3 5 6 7"
+    outsider "$dissent"
     large_round > "$work/script"
     [ -z "$peer" ] || against 'dissent run, a round of 512 clients and 16 servers, to the deal in plain Rust' 1.2 2 "$work/script" "$dissent run" \
         "$peer deal 512 16 3 5 6 7"

@@ -10,12 +10,14 @@ mod lms;
 mod notary;
 mod pads;
 mod records;
+mod reports;
 mod rounds;
 mod sums;
 mod text;
 mod verdicts;
 
 use anyhow::{Context, Result, bail};
+use dn_io::{ReadEdge, Source};
 use dn_roster::GroupSpec;
 use std::alloc::Global;
 use std::env;
@@ -51,10 +53,11 @@ fn group(words: &[String]) -> Result<GroupSpec> {
 }
 
 /// The lines of the measure that the words ask for.
-fn measure(
+fn measure<S: Source>(
     rt: &(impl Threads + Clock + Eprint + Sync),
     alloc: Global,
     words: &[String],
+    source: &mut S,
 ) -> Result<String> {
     let name = words.first().context("no measure")?;
     match name.as_str() {
@@ -88,6 +91,7 @@ fn measure(
         "deal" => deal::line(alloc, group(words)?),
         "flight" => flight::line(rt, alloc, number(words, 1)?, number(words, 2)?),
         "round" => rounds::line(rt, alloc, group(words)?),
+        "report" => reports::line(rt, alloc, group(words)?, source),
         "sum" => sums::line(
             rt,
             alloc,
@@ -112,7 +116,8 @@ fn main(rt: HostRuntime) -> Result<()> {
     for word in env::args(&rt)?.skip(1) {
         words.push(word)?;
     }
-    let line = measure(&rt, rt.alloc(), &words)?;
+    let mut source = ReadEdge::make(rt.reader());
+    let line = measure(&rt, rt.alloc(), &words, &mut source)?;
     println!(rt; "{line}")?;
     Ok(())
 }

@@ -7,13 +7,14 @@ use Rattle.dn_io.specs.declared.status.Status.TheVariants as status
 use Rattle.dn_io.specs.Task.{Outside, Came, CameFor, Ends, EndsUnread}
 use Rattle.dn_script.specs.declared.script.ScriptFault.{ScriptFault}
 use Rattle.dn_script.specs.declared.script.ScriptFault.TheVariants.{BadLine, NoMemory}
-use Rattle.dn_script.specs.Plain.{Plain, SpellsGroup, plain_of}
+use Rattle.dn_script.specs.Plain.{Plain, plain_of}
 use Rattle.dn_script.specs.Script.{Lines, script_of}
 use Rattle.dn_script.specs.Spelled.{Spells}
 use Rattle.dn_script.specs.Parsed.{GivesScript}
 use Rattle.dn_script.proofs.ScriptLaws.{script_spelled}
 use Rattle.dn_run_report.specs.Report.{PlayedView, report_text}
-use Rattle.dn_runner.specs.Play.{IsPlayOf}
+use Rattle.dn_runner.specs.Play.{HasGroup, IsPlayOf}
+use Rattle.dn_runner.proofs.GroupLemmas.{not_plain}
 use Rattle.dn_cmd.specs.Round.{plain_text}
 use Rattle.dn_cmd.specs.Run.{script_task, refusal_of, EndsPlay}
 
@@ -48,30 +49,32 @@ report_came : (before after : Outside) (text : List ℕ) (script : Lines) (p : P
 report_came before after text script p came spells play = record { text = text; came = came; is_due = inr (script, spells, p, play, refl) }
 
 play_ends : (before after : Outside) (s : Status) (text : List ℕ) (script : Lines) → Came script_task.limit before after text → Spells text script
-    → plain_of script ≡ None → EndsPlay script before.held after.held before.write_faults after.write_faults s → Ends script_task before after s
-play_ends before after status.Unbuilt text script came spells other kept =
-    (kept, text, came, record { script = script; spells = spells; other = other })
-play_ends before after status.NoMemory text script came spells other ended =
+    → EndsPlay script before.held after.held before.write_faults after.write_faults s → Ends script_task before after s
+play_ends before after status.NoMemory text script came spells ended =
     elim ended [
       | inl kept ↦ inl kept
       | inr front ↦ inr (report_text front.0, report_came before after text script front.0 came spells front.1, front.2)
     ]
-play_ends before after s text script came spells other (p, play, written) =
+play_ends before after s text script came spells (p, play, written) =
     ends_written before after s (report_text p) (report_came before after text script p came spells play) written
 
 -- the report of a run was written, or a front of it
 pub play_written : (script : Lines) (p : PlayedView) (old new : Option (List ℕ)) (before after : ℕ) (s : Status) → IsPlayOf script p
     → EndsUnread (report_text p) old new before after s → EndsPlay script old new before after s
-play_written script p old new before after status.Unbuilt play written = absurd written
 play_written script p old new before after status.NoMemory play written = inr (p, play, written)
 play_written script p old new before after s play written = (p, play, written)
 
 -- a group's script was run
-pub ends_group : (before after : Outside) (s : Status) (text items : List ℕ) (script : Lines) (plain : Option Plain) → text ≡ items
-    → Came script_task.limit before after items → script_of text ≡ Ok script → plain ≡ plain_of script → plain ≡ None
+pub ends_group : (before after : Outside) (s : Status) (text items : List ℕ) (script : Lines) → text ≡ items
+    → Came script_task.limit before after items → script_of text ≡ Ok script
     → EndsPlay script before.held after.held before.write_faults after.write_faults s → Ends script_task before after s
-ends_group before after s text items script plain same came read is none =
-    play_ends before after s items script came (script_spelled items script (ap script_of (sym same) ∙ read)) (sym is ∙ none)
+ends_group before after s text items script same came read =
+    play_ends before after s items script came (script_spelled items script (ap script_of (sym same) ∙ read))
+
+-- a script that isn't plain has a group
+pub has_group : (text : List ℕ) (script : Lines) (plain : Option Plain) → script_of text ≡ Ok script → plain ≡ plain_of script → plain ≡ None
+    → HasGroup script
+has_group text script plain read is none = not_plain script (script_spelled text script read).legal (sym is ∙ none)
 
 -- a text that came and was refused
 pub refused : (before after : Outside) (text items : List ℕ) (fault : ScriptFault) → text ≡ items → Came script_task.limit before after items

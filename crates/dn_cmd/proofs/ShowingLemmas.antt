@@ -1,6 +1,6 @@
 -- How `demo` ends.
 use Rattle.std.proofs.Common.{◌≡◌, ℕ, List, Option, Some, None, Result, Ok, Err, inl, inr, refl, sym, ap, ◌∙◌}
-use Rattle.std.specs.Prelude.{◌⊎◌, IfOk, IfSome}
+use Rattle.std.specs.Prelude.{◌⊎◌, IfOk, IfSome, MatchOption}
 use Rattle.dn_io.specs.declared.status.Status.{Status}
 use Rattle.dn_io.specs.declared.status.Status.TheVariants as status
 use Rattle.dn_io.specs.Faults.{Rose}
@@ -9,14 +9,14 @@ use Rattle.dn_gen.specs.Generated.{generated}
 use Rattle.dn_script.specs.Script.{Lines, script_of}
 use Rattle.dn_script.proofs.ScriptLaws.{script_spelled}
 use Rattle.dn_run_report.specs.Report.{PlayedView}
-use Rattle.dn_runner.specs.Play.{IsPlayOf}
+use Rattle.dn_runner.specs.Play.{HasGroup, IsPlayOf}
 use Rattle.dn_cmd.specs.declared.command.Command.TheVariants.{Demo}
 use Rattle.dn_cmd.specs.Answers.{IsAnswer}
 use Rattle.dn_cmd.specs.Demo.{demo_text, IsDemoOf, EndsDemo}
 
 -- what the script came to that was read from the text of the number is a run for the number
 pub played_is_demo : {E : Type 0} (num : ℕ) (text : List ℕ) (script : Lines) (r : Result (Option PlayedView) E) → text ≡ generated num
-    → script_of text ≡ Ok script → IfOk r (λ played. IfSome played (IsPlayOf script)) → IfOk r (λ played. IfSome played (IsDemoOf num))
+    → script_of text ≡ Ok script → IfOk r (λ played. MatchOption played (¬ HasGroup script) (IsPlayOf script)) → IfOk r (λ played. IfSome played (IsDemoOf num))
 played_is_demo num text script (Ok (Some p)) same read play = (script, script_spelled (generated num) script (ap script_of (sym same) ∙ read), play)
 played_is_demo num text script (Ok None) same read play = tt
 played_is_demo num text script (Err e) same read play = tt

@@ -13,7 +13,7 @@ use Rattle.dn_gen.specs.Generated.{generated}
 use Rattle.dn_script.specs.Script.{Lines}
 use Rattle.dn_script.specs.Spelled.{Spells}
 use Rattle.dn_world.specs.declared.step.Step.{Step}
-use Rattle.dn_world.specs.declared.world.Audit.{Audit}
+use Rattle.dn_state.specs.declared.reading.Audit.{Audit}
 use Rattle.dn_run_report.specs.Report.{PlayedView, report_text}
 use Rattle.dn_runner.specs.Play.{IsPlayOf}
 use Rattle.dn_cmd.specs.declared.showing.Counted.{Counted}

@@ -9,17 +9,16 @@ use Rattle.dn_io.specs.Sink.{AppendsFront}
 use Rattle.dn_io.specs.Task.{Task, EndsUnread}
 use Rattle.dn_script.specs.declared.script.ScriptFault.{ScriptFault}
 use Rattle.dn_script.specs.declared.script.ScriptFault.TheVariants.{BadLine, NoMemory}
-use Rattle.dn_script.specs.Plain.{Plain, SpellsPlain, SpellsGroup}
+use Rattle.dn_script.specs.Plain.{Plain, SpellsPlain}
 use Rattle.dn_script.specs.Script.{Lines, IsFirstBad}
 use Rattle.dn_script.specs.Spelled.{Spells}
 use Rattle.dn_run_report.specs.Report.{PlayedView, report_text}
 use Rattle.dn_runner.specs.Play.{IsPlayOf}
 use Rattle.dn_cmd.specs.Round.{plain_text}
 
--- the text's first bad line, and what is wrong with it; or the text spells a script of a group with lines that aren't run yet
+-- the text's first bad line, and what is wrong with it
 abbrev pub IsRefused : List ℕ → Status → Type 0
 IsRefused text (status.BadLine number cause) = IsFirstBad text number cause
-IsRefused text status.Unbuilt = SpellsGroup text
 IsRefused text status = ⊥
 
 -- the text spells a plain script, and this is what the script gives
@@ -39,7 +38,6 @@ script_task = record { limit = MAX_SCRIPT_BYTES; Refuses = IsRefused; Due = IsSc
 -- How a run of a group's script ended with this status, by what the output held, where it tells it, and how often it had failed, before
 -- and after it.
 abbrev pub EndsPlay : Lines → Option (List ℕ) → Option (List ℕ) → ℕ → ℕ → Status → Type 0
-EndsPlay script held_before held_after faults_before faults_after status.Unbuilt = Keeps held_before held_after
 EndsPlay script held_before held_after faults_before faults_after status.NoMemory =
     Keeps held_before held_after
     ⊎ ((p : PlayedView) × IsPlayOf script p × AppendsFront held_before held_after (report_text p))

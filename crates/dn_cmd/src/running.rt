@@ -2,6 +2,7 @@ ghost use Rattle.std.specs.Prelude.{◌≡◌};
 ghost use Rattle.dn_io.specs.Task.{Ends, EndsUnread};
 ghost use Rattle.dn_script.specs.Plain.{IsScript};
 ghost use Rattle.dn_run_report.specs.Report.{report_text};
+ghost use Rattle.dn_runner.specs.Play.{HasGroup};
 ghost use Rattle.dn_cmd.specs.Answers.{outside};
 ghost use Rattle.dn_cmd.specs.Round.{plain_text};
 ghost use Rattle.dn_cmd.specs.Run.{script_task, refusal_of, EndsPlay};
@@ -59,11 +60,12 @@ fn run_group<R: Threads + Wait + Sync, K: Sink, C: Crew>(
     script: &Script,
     output: &mut K,
 ) -> Status
+    requires { HasGroup script.now }
     ensures { EndsPlay script.now (K.held output.old) (K.held output.new) (K.faults output.old) (K.faults output.new) result }
 {
     match play(rt, alloc, crew, script) {
         Ok(Some(played)) => write_report(&played, output),
-        Ok(None) => Status::Unbuilt,
+        Ok(None) => unreachable!(),
         Err(_) => Status::NoMemory,
     }
 }

@@ -159,7 +159,7 @@ pub fn race_on<R: Threads + Wait + Sync, H: Hold>(
         ensures closer { IsCloser gate.entry.now result.0.closing result.0.refused result.0 }
         ensures closed { MatchOption result.1 ((result.0.closing ≡ None) × ((found : ℕ) × (result.0.refused ≡ found ∷ []))) (λ c. (c.gate ≡ gate.entry.now) × (result.0.closing ≡ Some c.count)) }
     { close_gate(gate, last, hold) };
-    let (shares, closed) = join(rt, submit, close);
+    let (closed, shares) = join(rt, close, submit);
     let (closer, closing) = closed;
     let all = gather(alloc, gate, closer, shares?, list, workers)?;
     finish(alloc, gate, all, closing, list, workers)

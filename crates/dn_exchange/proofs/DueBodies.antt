@@ -1,7 +1,8 @@
 -- The body that a server tells as its own, where another one spoils its round, is justified.
-use Rattle.std.proofs.Common.{◌≡◌, ℕ, true, false, List, [], ◌∷◌, ◌++◌, Some, zero, suc, refl, sym, ap, subst, ◌∙◌, arith, inl, inr}
+use Rattle.std.proofs.Common.{◌≡◌, ◌≢◌, ℕ, true, false, List, [], ◌∷◌, ◌++◌, Some, zero, suc, refl, sym, ap, subst, ◌∙◌, arith, inl, inr}
 use Rattle.std.specs.Prelude.{◌⊎◌, Contains}
-use Rattle.std.proofs.lemmas.List.Elements.{Contains-append_cases}
+use Rattle.std.proofs.lemmas.List.Elements.{Contains-append_cases, Contains-push}
+use Rattle.std.proofs.lemmas.Option.{same_Some}
 use Rattle.dn_wire.specs.declared.ids.Round.{Round}
 use Rattle.dn_wire.specs.declared.ids.ServerId.{ServerId}
 use Rattle.dn_record_types.specs.declared.body.Body.{Body}
@@ -19,8 +20,9 @@ use Rattle.dn_server.specs.declared.run.Stage.TheVariants as stages
 use Rattle.dn_server.specs.Answers.{ignored, does}
 use Rattle.dn_server.specs.Justified.{Justified}
 use Rattle.dn_server.specs.Keeping.{round_of}
-use Rattle.dn_server.specs.Server.{ServerView, WasIncluded, ended, statement_of}
-use Rattle.dn_rounds.specs.Going.{Step, Steps, spoiled_twice, spoiled_body}
+use Rattle.dn_server.specs.Server.{ServerView, WasIncluded, ended, is_of, statement_of}
+use Rattle.dn_server.proofs.KeptLemmas.{kept_by, statement_said}
+use Rattle.dn_rounds.specs.Going.{IsFirstAgainst, Step, Steps, spoiled_twice, spoiled_body}
 use Rattle.dn_rounds.specs.Going.Step.{commits, reveals, signs, signs_thin, certifies, commit_conflicts, reveal_conflicts, body_opposed, thin_opposed}
 use Rattle.dn_rounds.specs.Going.Steps.{no_step, one_more}
 use Rattle.dn_openings.specs.Hearing.{HearsEvidence}
@@ -38,6 +40,7 @@ use Rattle.dn_exchange.proofs.ChainStays.{none_after}
 use Rattle.dn_exchange.proofs.Grows.{justified_grows, same_chain}
 use Rattle.dn_exchange.proofs.HonestGoing.{step_honest}
 use Rattle.dn_exchange.proofs.HonestMoves.{KeepsMore, keeps_same, keeps_push, moved, says_on, included_on}
+use Rattle.dn_exchange.proofs.JustifiedLemmas.{found_there}
 use Rattle.dn_exchange.proofs.HonestSteps.{body_justified, thin_body_justified}
 use Rattle.dn_exchange.proofs.Promises.{own_body, kept_of_round}
 use Rattle.dn_exchange.proofs.StepSound.{step_sound}
@@ -78,16 +81,48 @@ head_act : (x : Act) (xs : List Act) (y : Act) → Contains (x ∷ xs) y → (x 
 head_act x xs y (zero, lt, e) = inl e
 head_act x xs y (suc k, lt, e) = inr (k, omega (arith, lt), e)
 
+-- server j signed another body than this in the server's round, and it is among what is kept
+record IsAgainst (v : ServerView) (kept : List SaidView) (j : ServerId) (b : Body) : Type 0 where
+  other : Body
+  said : SaidView
+  among : Contains kept said
+  by : said.signer ≡ server j.0
+  is : said.statement ≡ kinds.Sign other
+  round : other.r ≡ v.run.r
+  differs : other ≢ b
+
+-- the first server that signed another body did
+first_against : (v : ServerView) → IsHonest v → IsSound v → (b other : Body) (k : ℕ) (j : ServerId) → IsFirstAgainst v b k other → k ≡ j.0 → IsAgainst v v.run.kept j b
+first_against v h s b other k j first same =
+    let found = statement_said v.run.kept 6 k (kinds.Sign other) first.signed in
+    record {
+      other = other;
+      said = found.0;
+      among = found_there (is_of 6 k) v.run.kept found.0 found.1;
+      by = kept_by v.run.kept 6 k found.0 found.1 ∙ ap server same;
+      is = found.2;
+      round = same_Some other.r v.run.r (kept_of_round v h s 6 k (kinds.Sign other) first.signed);
+      differs = first.differs;
+    }
+
 -- a body of the run that ended
 module _ (v : ServerView) (h : IsHonest v) (kept : List SaidView) (grown : KeepsMore v.run.kept kept) where
   abbrev over : ServerView
   over = moved v v.chain kept (record v.run.window { closed = true }) false 0
 
-  ended_due : (b : Body) (own : List ℕ) → own ≡ body_bytes b → b.r ≡ v.run.r → Justified (IsSaidBy v) (WasIncluded v.run) v.seat v.chain b → IsDueBody over own
-  ended_due b own spelled round j = record {
+  ended_due : (b : Body) (own : List ℕ) (j : ServerId) → own ≡ body_bytes b → b.r ≡ v.run.r → Justified (IsSaidBy v) (WasIncluded v.run) v.seat v.chain b → IsAgainst v kept j b
+      → IsDueBody over j own
+  ended_due b own x spelled round j against = record {
     body = b;
     spelled = spelled;
     round = round;
+    other = against.other;
+    kept = against.said;
+    among = against.among;
+    by = against.by;
+    said = against.is;
+    other_round = against.round;
+    differs = against.differs;
     justified =
         justified_grows (IsSaidBy v) (IsSaidBy over) (WasIncluded v.run) (WasIncluded over.run)
         (says_on v v.chain kept (record v.run.window { closed = true }) false 0 (same_chain v.chain h.chain) grown)
@@ -97,6 +132,9 @@ module _ (v : ServerView) (h : IsHonest v) (kept : List SaidView) (grown : Keeps
 spoiled_own : (i j : ServerId) (r q : SpoilReason) (own other came given : List ℕ) → acts.Spoiled i r own came ≡ acts.Spoiled j q other given → (r ≡ q) × (own ≡ other)
 spoiled_own i j r q own other came given e = ((cc), (cc))
 
+spoiled_by : (i j : ServerId) (r q : SpoilReason) (own other came given : List ℕ) → acts.Spoiled i r own came ≡ acts.Spoiled j q other given → i ≡ j
+spoiled_by i j r q own other came given e = cc
+
 not_twice : (k : ℕ) (x y : Statement) (j : ServerId) (own came : List ℕ) → spoiled_twice k x y ≡ acts.Spoiled j spoils.Body own came → ⊥
 not_twice k x y j own came e = let reason = (spoiled_own _ j spoils.Twice spoils.Body _ own _ came e).0 in cc
 
@@ -105,15 +143,17 @@ not_twice k x y j own came e = let reason = (spoiled_own _ j spoils.Twice spoils
 -- one step tells no body, or one that is due, and then the run has ended
 module _ (v : ServerView) (h : IsHonest v) (sound : IsSound v) (runs : v.run.is_running ≡ true) where
   told : (w : ServerView) (b other : Body) (k : ℕ) (j : ServerId) (own came : List ℕ) → w ≡ ended v → b.r ≡ v.run.r → Justified (IsSaidBy v) (WasIncluded v.run) v.seat v.chain b
-      → spoiled_body k b other ≡ acts.Spoiled j spoils.Body own came → IsDueBody w own × (w.run.is_running ≡ false)
-  told w b other k j own came same round justified e =
-      let spelled = (spoiled_own _ j spoils.Body spoils.Body (body_bytes b) own _ came e).1 in (
-        subst (λ (x : ServerView). IsDueBody x own) (sym same) (ended_due v h v.run.kept (keeps_same v.run.kept) b own (sym spelled) round justified),
+      → IsFirstAgainst v b k other → spoiled_body k b other ≡ acts.Spoiled j spoils.Body own came → IsDueBody w j own × (w.run.is_running ≡ false)
+  told w b other k j own came same round justified first e =
+      let spelled = (spoiled_own _ j spoils.Body spoils.Body (body_bytes b) own _ came e).1 in
+      let at = spoiled_by (record { 0 = k }) j spoils.Body spoils.Body (body_bytes b) own _ came e in
+      let against = first_against v h sound b other k j first (ap (λ (x : ServerId). x.0) at) in (
+        subst (λ (x : ServerView). IsDueBody x j own) (sym same) (ended_due v h v.run.kept (keeps_same v.run.kept) b own j (sym spelled) round justified against),
         ap (λ (x : ServerView). x.run.is_running) same,
       )
 
   step_tells : (did : List Act) (w : ServerView) → Step v did w → (j : ServerId) (own came : List ℕ) → Contains did (acts.Spoiled j spoils.Body own came)
-      → IsDueBody w own × (w.run.is_running ≡ false)
+      → IsDueBody w j own × (w.run.is_running ≡ false)
   step_tells did w (commits sum due free leaf d e) j own came c = absurd (let clash = one_act _ _ (subst (λ l. Contains l (acts.Spoiled j spoils.Body own came)) d c) in cc)
   step_tells did w (reveals sum due free leaf d e) j own came c = absurd (let clash = one_act _ _ (subst (λ l. Contains l (acts.Spoiled j spoils.Body own came)) d c) in cc)
   step_tells did w (signs sum b due free leaf d e) j own came c = absurd (let clash = one_act _ _ (subst (λ l. Contains l (acts.Spoiled j spoils.Body own came)) d c) in cc)
@@ -126,9 +166,9 @@ module _ (v : ServerView) (h : IsHonest v) (sound : IsSound v) (runs : v.run.is_
   step_tells did w (commit_conflicts sum other due free d e) j own came c = absurd (not_twice _ _ _ j own came (one_act _ _ (subst (λ l. Contains l (acts.Spoiled j spoils.Body own came)) d c)))
   step_tells did w (reveal_conflicts sum other due free d e) j own came c = absurd (not_twice _ _ _ j own came (one_act _ _ (subst (λ l. Contains l (acts.Spoiled j spoils.Body own came)) d c)))
   step_tells did w (body_opposed sum b k other due free d e) j own came c =
-      told w b other k j own came e (ap (λ (x : Body). x.r) due.is) (body_justified v h sound runs sum b due) (one_act _ _ (subst (λ l. Contains l (acts.Spoiled j spoils.Body own came)) d c))
+      told w b other k j own came e (ap (λ (x : Body). x.r) due.is) (body_justified v h sound runs sum b due) free (one_act _ _ (subst (λ l. Contains l (acts.Spoiled j spoils.Body own came)) d c))
   step_tells did w (thin_opposed b k other due free d e) j own came c =
-      told w b other k j own came e (ap (λ (x : Body). x.r) due.is) (thin_body_justified v h sound runs b due) (one_act _ _ (subst (λ l. Contains l (acts.Spoiled j spoils.Body own came)) d c))
+      told w b other k j own came e (ap (λ (x : Body). x.r) due.is) (thin_body_justified v h sound runs b due) free (one_act _ _ (subst (λ l. Contains l (acts.Spoiled j spoils.Body own came)) d c))
 
 steps_tell : (v : ServerView) (did : List Act) (w : ServerView) → IsHonest v → IsSound v → Steps v did w → OwnBodiesAreDue w did
 steps_tell v did w h s (no_step d e) = λ j own came c. absurd (nothing (subst (λ l. Contains l (acts.Spoiled j spoils.Body own came)) d c))
@@ -138,7 +178,7 @@ steps_tell v did w h s (one_more first rest between runs step others d) =
     elim (Contains-append_cases first rest (acts.Spoiled j spoils.Body own came) (subst (λ l. Contains l (acts.Spoiled j spoils.Body own came)) d c)) [
       | inl now ↦
           let here = step_tells v h s runs first between step j own came now in
-          subst (λ (x : ServerView). IsDueBody x own) (sym (none_after between rest w here.1 others)) here.0
+          subst (λ (x : ServerView). IsDueBody x j own) (sym (none_after between rest w here.1 others)) here.0
       | inr then ↦ later j own came then
     ]
 
@@ -182,12 +222,15 @@ shuts_tell v a w s straight h (closes_now did isnt closes e) =
 
 -- ---- hearing of a round
 
--- A body that is told against another one is the one that the server signed.
-record IsToldBody (v : ServerView) (fault : Differing) : Type 0 where
+-- A body that is told against another one, which is what was heard, is the one that the server signed.
+record IsToldBody (v : ServerView) (s : Statement) (fault : Differing) : Type 0 where
   own : Body
   stage : v.run.stage ≡ stages.Signed
   kept : statement_of v.run.kept 6 v.seat.number ≡ Some (kinds.Sign own)
   spelled : fault.kept ≡ body_bytes own
+  other : Body
+  heard : s ≡ kinds.Sign other
+  differs : other ≢ own
 
 reason_of : Differing → SpoilReason
 reason_of d = d.reason
@@ -195,7 +238,7 @@ reason_of d = d.reason
 kept_told : Differing → List ℕ
 kept_told d = d.kept
 
-told_body : (v : ServerView) (j : ℕ) (s : Statement) (fault : Differing) → HasFault v j s fault → fault.reason ≡ spoils.Body → IsToldBody v fault
+told_body : (v : ServerView) (j : ℕ) (s : Statement) (fault : Differing) → HasFault v j s fault → fault.reason ≡ spoils.Body → IsToldBody v s fault
 unfolding reason_of kept_told
 told_body v j (kinds.Submission r prev i d) fault has is = absurd has
 told_body v j (kinds.Receipt r i d t) fault has is = absurd has
@@ -204,7 +247,7 @@ told_body v j (kinds.Inventory inventory) fault (inr has) is = absurd (let clash
 told_body v j (kinds.Commit r d) fault has is = absurd (let clash : spoils.Commit ≡ spoils.Body = sym (ap reason_of has.3) ∙ is in cc)
 told_body v j (kinds.Reveal r s) fault (inl has) is = absurd (let clash : spoils.Length ≡ spoils.Body = sym (ap reason_of has.1) ∙ is in cc)
 told_body v j (kinds.Reveal r s) fault (inr has) is = absurd (let clash : spoils.Commit ≡ spoils.Body = sym (ap reason_of has.5) ∙ is in cc)
-told_body v j (kinds.Sign b) fault has is = record { own = has.0; stage = has.1; kept = has.2; spelled = ap kept_told has.4 }
+told_body v j (kinds.Sign b) fault has is = record { own = has.0; stage = has.1; kept = has.2; spelled = ap kept_told has.4; other = b; heard = refl; differs = has.3 }
 told_body v j (kinds.PadBits r k bs) fault has is = absurd has
 told_body v j (kinds.Shown r s xs) fault has is = absurd has
 told_body v j (kinds.Accusation r s k) fault has is = absurd has
@@ -219,12 +262,12 @@ module _ (v : ServerView) (h : IsHonest v) (s : IsSound v) where
       let both = sym said.1.kept ∙ kept in
       subst (λ (x : Statement). Contains v.signed x) (cc) said.1.signed
 
-  signed_due : (y : SaidView) (b : Body) (own : List ℕ) → own ≡ body_bytes b → v.run.stage ≡ stages.Signed → statement_of v.run.kept 6 v.seat.number ≡ Some (kinds.Sign b)
-      → IsDueBody (ended (with_kept v y)) own
-  signed_due y b own spelled stage kept =
+  signed_due : (y : SaidView) (b : Body) (own : List ℕ) (j : ServerId) → own ≡ body_bytes b → v.run.stage ≡ stages.Signed → statement_of v.run.kept 6 v.seat.number ≡ Some (kinds.Sign b)
+      → IsAgainst v (v.run.kept ++ y ∷ []) j b → IsDueBody (ended (with_kept v y)) j own
+  signed_due y b own j spelled stage kept against =
       let of : Some b.r ≡ Some v.run.r = kept_of_round v h s 6 v.seat.number (kinds.Sign b) kept in
       let round : b.r ≡ v.run.r = cc in
-      ended_due v h (v.run.kept ++ y ∷ []) (keeps_push v.run.kept y) b own spelled round (h.signs b (signed_kept b stage kept) round)
+      ended_due v h (v.run.kept ++ y ∷ []) (keeps_push v.run.kept y) b own j spelled round (h.signs b (signed_kept b stage kept) round) against
 
 hears_round_tells : (v : ServerView) (j : ℕ) (r : Round) (y : SaidView) (a : Answer) (w : ServerView) → IsSound v → v.bent ≡ false → IsHonest v → IsSaid y → IsUnder v.seat.roster y
     → round_of y.statement ≡ Some r → y.signer ≡ server j → HearsRound v j r y a w → TellsDueBodies w a
@@ -238,7 +281,18 @@ hears_round_tells v j r y a w s straight h said under of by (is_faulty fault q i
     by_acts w _ a e (λ x own came c.
     let same = spoiled_own (record { 0 = j }) x fault.reason spoils.Body fault.kept own fault.came came (one_act _ _ c) in
     let told = told_body v j y.statement fault has same.0 in
-    subst (λ (z : ServerView). IsDueBody z own) (sym f) (signed_due v h s y told.own own (sym same.1 ∙ told.spelled) told.stage told.kept))
+    let at = spoiled_by (record { 0 = j }) x fault.reason spoils.Body fault.kept own fault.came came (one_act _ _ c) in
+    let round : Some told.other.r ≡ Some v.run.r = ap round_of (sym told.heard) ∙ of ∙ ap Some q in
+    let against : IsAgainst v (v.run.kept ++ y ∷ []) x told.own = record {
+      other = told.other;
+      said = y;
+      among = Contains-push v.run.kept y;
+      by = by ∙ ap (λ (z : ServerId). server z.0) at;
+      is = told.heard;
+      round = same_Some told.other.r v.run.r round;
+      differs = told.differs;
+    } in
+    subst (λ (z : ServerView). IsDueBody z x own) (sym f) (signed_due v h s y told.own own x (sym same.1 ∙ told.spelled) told.stage told.kept against))
 hears_round_tells v j r y a w s straight h said under of by (goes_on did q i k fine goes e) =
     by_acts w did a e (steps_tell (with_kept v y) did w (kept_honest v h j y by k i fine) (kept_sound v s j y (of ∙ ap Some q) said under fine) goes.steps)
 

@@ -24,8 +24,8 @@ use Rattle.dn_server.specs.Server.{ServerView}
 use Rattle.dn_openings.specs.Discipline.{KeepsOpenings}
 use Rattle.dn_openings.specs.Hearing.{HearsEvidence}
 use Rattle.dn_openings.proofs.DisciplineLemmas.{hears_keep}
-use Rattle.dn_exchange.specs.Disciplined.{IsPastAs}
-use Rattle.dn_exchange.specs.Honest.{HasSaidNone, IsHonest, IsTrue}
+use Rattle.dn_exchange.specs.Disciplined.{IsPastAs, HasSaidNone}
+use Rattle.dn_exchange.specs.Honest.{IsHonest, IsTrue}
 use Rattle.dn_exchange.specs.Invariant.{IsSound}
 use Rattle.dn_exchange.specs.Listening.{Hears, not_by_server, of_round, of_evidence}
 use Rattle.dn_exchange.specs.Opening.{Opens, IsOld, fresh_run, expected_by}

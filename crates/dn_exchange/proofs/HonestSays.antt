@@ -20,8 +20,8 @@ use Rattle.dn_server.specs.declared.run.Sum.{Sum}
 use Rattle.dn_server.specs.Justified.{Justified}
 use Rattle.dn_server.specs.Server.{ServerView, WasIncluded, past_of}
 use Rattle.dn_server.specs.Keeping.{round_of}
-use Rattle.dn_exchange.specs.Disciplined.{IsSaidBy, IsPast, IsPastAs, commit_to}
-use Rattle.dn_exchange.specs.Honest.{HasSaidNone, IsSaidAt, aside_at, AreFitting, IsHonest}
+use Rattle.dn_exchange.specs.Disciplined.{IsSaidBy, IsPast, IsPastAs, commit_to, HasSaidNone}
+use Rattle.dn_exchange.specs.Honest.{IsSaidAt, aside_at, AreFitting, IsHonest}
 use Rattle.dn_exchange.proofs.Grows.{justified_grows, same_chain}
 use Rattle.dn_exchange.proofs.HonestMoves.{KeepsMore}
 use Rattle.dn_exchange.proofs.OwnKept.{OneKept}

@@ -25,8 +25,8 @@ use Rattle.dn_server.specs.Keeping.{round_of}
 use Rattle.dn_rounds.specs.Going.{IsListing, IsSum, commitment_of}
 use Rattle.dn_openings.specs.Discipline.{KeepsOpenings}
 use Rattle.dn_exchange.specs.Closing.{inventory_of}
-use Rattle.dn_exchange.specs.Disciplined.{IsSaidBy, IsPastAs, AreGood, commit_to}
-use Rattle.dn_exchange.specs.Honest.{HasSaid, HasSaidNone, HasSaidInventory, IsCommittedTo, HasRevealed, HasSaidBody, HasSaidThin, IsSaidAt, Wants, IsHonest, IsTrue}
+use Rattle.dn_exchange.specs.Disciplined.{IsSaidBy, IsPastAs, AreGood, commit_to, HasSaidNone}
+use Rattle.dn_exchange.specs.Honest.{HasSaid, HasSaidInventory, IsCommittedTo, HasRevealed, HasSaidBody, HasSaidThin, IsSaidAt, Wants, IsHonest, IsTrue}
 use Rattle.dn_exchange.proofs.Grows.{included_grow, justified_grows, same_chain}
 
 module _ (v : ServerView) (signed : List Statement) (window : WindowState) (claims : List (Option Claim)) (opened : List Place) (evidence : List SaidView) (challenged : List Place) where

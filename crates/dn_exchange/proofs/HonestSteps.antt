@@ -24,8 +24,8 @@ use Rattle.dn_server.proofs.KeptLemmas.{kept_round, statement_said, kept_kind}
 use Rattle.dn_server.proofs.Shapes.{sign_shape}
 use Rattle.dn_rounds.specs.Going.{IsFree, IsListing, IsSum, IsCommitDue, IsRevealDue, IsBodyDue, IsThinDue, IsUnopposed, with_own, commitment_of, past_with, thin_past, turned}
 use Rattle.dn_rounds.proofs.SumLemmas.{sum_long}
-use Rattle.dn_exchange.specs.Disciplined.{IsSaidBy, IsPast, IsPastAs, IsFullPast, AreGood, commit_to}
-use Rattle.dn_exchange.specs.Honest.{HasSaid, HasSaidNone, HasSaidInventory, IsCommittedTo, HasRevealed, IsSaidAt, aside_at, AreFitting, IsHonest}
+use Rattle.dn_exchange.specs.Disciplined.{IsSaidBy, IsPast, IsPastAs, IsFullPast, AreGood, commit_to, HasSaidNone}
+use Rattle.dn_exchange.specs.Honest.{HasSaid, HasSaidInventory, IsCommittedTo, HasRevealed, IsSaidAt, aside_at, AreFitting, IsHonest}
 use Rattle.dn_exchange.specs.Closing.{inventory_of}
 use Rattle.dn_exchange.specs.Invariant.{IsSound, IsRunning, standing_of}
 use Rattle.dn_exchange.proofs.Grows.{included_grow}

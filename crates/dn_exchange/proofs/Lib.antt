@@ -33,6 +33,8 @@ pub mod HonestSigned
 pub mod HonestClaims
 pub mod Promises
 pub mod FirstHonest
+pub mod FitStays
+pub mod CallsFit
 pub mod CallsWhole
 pub mod TrimExists
 pub mod ChainStays

@@ -24,7 +24,8 @@ use Rattle.dn_rounds.proofs.CommitLemmas.{inventories_fit, never_both}
 use Rattle.dn_rounds.proofs.SumLemmas.{sum_long}
 use Rattle.dn_openings.proofs.DisciplineLemmas.{one_pads, one_shown}
 use Rattle.dn_exchange.specs.Closing.{inventory_of}
-use Rattle.dn_exchange.specs.Disciplined.{Disciplined, OnePerPlace, AreGood, IsItsSum}
+use Rattle.dn_exchange.specs.Disciplined.{Disciplined, OnePerPlace, AreGood, IsItsSum, AreUnsaid}
+use Rattle.dn_exchange.specs.Fitting.{SignsWhatFits}
 use Rattle.dn_exchange.specs.Honest.{HasSaid, HasSaidInventory, HasSaidCommit, HasSaidReveal, HasSaidThin, HasSaidBody, IsSaidAt, Wants, IsHonest, IsTrue}
 use Rattle.dn_exchange.specs.Invariant.{IsSound, IsRunning, standing_of}
 use Rattle.dn_exchange.specs.Settled.{Settled, HasSigned, KeepsAll, IsWithData, IsWithoutData, IsSignedByAll}
@@ -247,9 +248,17 @@ module _ (v : ServerView) (h : IsHonest v) (s : IsSound v) where
       let is : x ≡ y.0.s = cc in
       record { sum = y.0; has = y.1.commit.has; is = is; long = ap length is ∙ sum_long v y.0 y.1.commit.summed }
 
+  -- what it hasn't signed yet, by its stage
+  unsaid : (stage : Stage) → IsSaidAt stage v → AreUnsaid stage v
+  unsaid stages.Collecting x = x
+  unsaid stages.Listed x = (x.1, x.2, x.3)
+  unsaid stages.Committed x = (x.2, x.3)
+  unsaid stages.Revealed x = x.2
+  unsaid stages.Signed x = tt
+
   -- What it signed is disciplined.
-  pub disciplined : Disciplined v
-  disciplined = record {
+  pub disciplined : SignsWhatFits v → Disciplined v
+  disciplined fit = record {
     kinds_of = h.of_kinds;
     rounds = h.rounds;
     receipt_rounds = h.receipt_rounds;
@@ -269,6 +278,13 @@ module _ (v : ServerView) (h : IsHonest v) (s : IsSound v) where
     course = h.course;
     one_kept = h.one_kept;
     own_kept = own_said;
+    fits = fit.fits;
+    is_key = s.is_key;
+    committed = fit.committed;
+    started = λ on. let before = (s.running on).course.before in omega (arith, before);
+    open_runs = λ e. (s.is_open e).0;
+    claimed = λ i claim e. s.claimed i.0 claim e;
+    unsaid = unsaid v.run.stage h.said;
   }
 
 -- ---- a round that runs

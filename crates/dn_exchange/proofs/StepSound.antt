@@ -156,7 +156,7 @@ rewrapped v bend pasts s = record {
 -- ---- the steps
 
 -- a server's digest has 32 bytes
-server_digest_long : (r j : ℕ) (s : List ℕ) → length (server_digest_of r j s) ≡ 32
+pub server_digest_long : (r j : ℕ) (s : List ℕ) → length (server_digest_of r j s) ≡ 32
 unfolding server_digest_of
 server_digest_long r j s = length-sha256 _
 

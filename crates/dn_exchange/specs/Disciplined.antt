@@ -15,12 +15,17 @@ use Rattle.dn_record_types.specs.declared.statement.WordTold.{WordTold}
 use Rattle.dn_record_types.specs.Place.{Place, place_of}
 use Rattle.dn_records.specs.Records.{kind_byte}
 use Rattle.dn_seal.specs.Said.{SaidView}
+use Rattle.dn_seal.specs.Signer.{CanSign}
 use Rattle.dn_layout.specs.Layout.{bits_of}
+use Rattle.dn_lms.specs.Key.{IsKey}
 use Rattle.dn_cert.specs.Chain.{IsLayoutAfter}
 use Rattle.dn_cert.specs.Signed.{EntryVerifies}
 use Rattle.dn_cert.specs.Trim.{given_to}
+use Rattle.dn_window.specs.Window.{has_of}
 use Rattle.dn_server.specs.declared.claims.Claim.{Claim}
 use Rattle.dn_server.specs.declared.past.Past.{Past}
+use Rattle.dn_server.specs.declared.run.Stage.{Stage}
+use Rattle.dn_server.specs.declared.run.Stage.TheVariants as stages
 use Rattle.dn_server.specs.declared.run.Sum.{Sum}
 use Rattle.dn_server.specs.Justified.{Seat, Course, Justified, AreOfRows, server_string, digest_by}
 use Rattle.dn_server.specs.Server.{ServerView, itself, WasIncluded}
@@ -42,6 +47,18 @@ OnePerPlace signed = (s t : Statement) (p : Place) → Contains signed s → Con
 -- the server's commitment to this ciphertext of round r
 abbrev pub commit_to : Seat → Round → List Bool → Statement
 commit_to seat r s = kinds.Commit r (server_digest_of r.0 seat.number (bytes_of s))
+
+-- it has signed no statement of this kind in the round that it opened last
+abbrev pub HasSaidNone : ServerView → ℕ → Type 0
+HasSaidNone v kind = (s : Statement) → Contains v.signed s → round_of s ≡ Some v.run.r → kind_byte s ≢ kind
+
+-- the kinds of which it has signed nothing yet, by its stage
+abbrev pub AreUnsaid : Stage → ServerView → Type 0
+AreUnsaid stages.Collecting v = HasSaidNone v 3 × HasSaidNone v 4 × HasSaidNone v 5 × HasSaidNone v 6
+AreUnsaid stages.Listed v = HasSaidNone v 4 × HasSaidNone v 5 × HasSaidNone v 6
+AreUnsaid stages.Committed v = HasSaidNone v 5 × HasSaidNone v 6
+AreUnsaid stages.Revealed v = HasSaidNone v 6
+AreUnsaid stages.Signed v = Unit {0}
 
 -- an inventory of the last round, after the round's prev, whose entries verify
 pub record AreGood (v : ServerView) (inventory : Inventory) : Type 0 where
@@ -118,3 +135,14 @@ pub record Disciplined (v : ServerView) : Type 0 where
   pub one_kept : (a b : SaidView) → Contains v.run.kept a → Contains v.run.kept b → a.signer ≡ b.signer → kind_byte a.statement ≡ kind_byte b.statement → a ≡ b
   pub own_kept : (s : Statement) → Contains v.signed s → round_of s ≡ Some v.run.r
       → (said : SaidView) × Contains v.run.kept said × (said.signer ≡ itself v) × (said.statement ≡ s)
+  -- each statement that it signed fits into an envelope, and its key is one that can sign
+  pub fits : (s : Statement) → Contains v.signed s → CanSign (itself v) s
+  pub is_key : IsKey v.key
+  -- it has committed itself to the ciphertext of the record
+  pub committed : (sum : Sum) → v.run.sum ≡ Some sum → Contains v.signed (commit_to v.seat v.run.r sum.s)
+  -- A round that runs isn't round 0, and a window that is open is that of a round that runs; who has a claim is in the window; and what comes later
+  -- in the round isn't signed yet.
+  pub started : v.run.is_running ≡ true → 1 ≤ v.run.r.0
+  pub open_runs : v.run.window.closed ≡ false → v.run.is_running ≡ true
+  pub claimed : (i : ClientId) (claim : Claim) → slice_get v.run.claims i.0 ≡ Some (Some claim) → has_of v.run.window i.0 ≡ true
+  pub unsaid : AreUnsaid v.run.stage v

@@ -22,16 +22,12 @@ use Rattle.dn_server.specs.Keeping.{round_of, HasAll}
 use Rattle.dn_rounds.specs.Going.{IsListing, IsSum, commitment_of}
 use Rattle.dn_openings.specs.Discipline.{KeepsOpenings}
 use Rattle.dn_exchange.specs.Closing.{inventory_of}
-use Rattle.dn_exchange.specs.Disciplined.{IsSaidBy, IsPast, AreGood, commit_to}
+use Rattle.dn_exchange.specs.Disciplined.{IsSaidBy, IsPast, AreGood, HasSaidNone, commit_to}
 
 -- it has signed the statement, and keeps it under its own number
 pub record HasSaid (v : ServerView) (s : Statement) : Type 0 where
   pub signed : Contains v.signed s
   pub kept : statement_of v.run.kept (kind_byte s) v.seat.number ≡ Some s
-
--- it has signed no statement of this kind in the round that it opened last
-abbrev pub HasSaidNone : ServerView → ℕ → Type 0
-HasSaidNone v kind = (s : Statement) → Contains v.signed s → round_of s ≡ Some v.run.r → kind_byte s ≢ kind
 
 abbrev pub HasSaidInventory : ServerView → Type 0
 HasSaidInventory v = HasSaid v (kinds.Inventory (inventory_of v.run))

@@ -12,6 +12,7 @@ pub mod Signing
 pub mod Disciplined
 pub mod Honest
 pub mod Settled
+pub mod Fitting
 pub mod Whole
 pub mod Holding
 pub mod Spoiling

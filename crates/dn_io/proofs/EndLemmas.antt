@@ -86,8 +86,6 @@ completes task before after (status.NotAccepted line rule) h calm still =
     came_due task before after h.1 (status.NotAccepted line rule) h.2 (h.2.within, h.3)
 completes task before after (status.BadLine number cause) h calm still =
     came_due task before after h.1 (status.BadLine number cause) h.2 (h.2.within, h.3)
-completes task before after status.Unbuilt h calm still =
-    came_due task before after h.1 status.Unbuilt h.2 (h.2.within, h.3)
 completes task before after (status.TooLong limit) h calm still = over task before.left after.left h.2 limit h.1 h.3 h.4
 completes task before after status.ReadFault h calm still = absurd (calm h.1)
 completes task before after status.WriteFault h calm still = absurd (still h.0)

@@ -2,7 +2,7 @@
 use Rattle.std.specs.Prelude.{ℕ, List, [], ◌++◌, codes}
 use Rattle.std.specs.Fmt.{decimal}
 use Rattle.dn_io.specs.declared.status.Status.{Status}
-use Rattle.dn_io.specs.declared.status.Status.TheVariants.{Ok, NotAccepted, Usage, ReadFault, WriteFault, BadLine, TooLong, NoMemory, Unbuilt}
+use Rattle.dn_io.specs.declared.status.Status.TheVariants.{Ok, NotAccepted, Usage, ReadFault, WriteFault, BadLine, TooLong, NoMemory}
 use Rattle.dn_io.specs.declared.reading.ReadEnd.{ReadEnd}
 use Rattle.dn_io.specs.declared.reading.ReadEnd.TheVariants as reading
 use Rattle.dn_io.specs.declared.writing.WriteEnd.{WriteEnd}
@@ -20,7 +20,6 @@ status_text WriteFault = codes "dissent: write fault"
 status_text (BadLine number cause) = codes "dissent: line " ++ (decimal number ++ (codes ": " ++ cause_text cause))
 status_text (TooLong limit) = codes "dissent: input longer than " ++ (decimal limit ++ codes " bytes")
 status_text NoMemory = codes "dissent: no memory"
-status_text Unbuilt = codes "dissent: group scripts are not run yet"
 
 -- the number with which the process ends
 abbrev pub exit_number : Status → ℕ
@@ -32,7 +31,6 @@ exit_number WriteFault = 4
 exit_number (BadLine number cause) = 5
 exit_number (TooLong limit) = 6
 exit_number NoMemory = 7
-exit_number Unbuilt = 8
 
 -- the status of a command whose input was not read whole
 abbrev pub read_status : ReadEnd → Status

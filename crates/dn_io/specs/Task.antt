@@ -19,7 +19,6 @@ abbrev pub IsDue : Task → List ℕ → Status → Type 0
 IsDue task text status.Ok = (length text ≤ task.limit) × (due : List ℕ) × task.Due text due
 IsDue task text (status.NotAccepted line rule) = (length text ≤ task.limit) × task.Refuses text (status.NotAccepted line rule)
 IsDue task text (status.BadLine number cause) = (length text ≤ task.limit) × task.Refuses text (status.BadLine number cause)
-IsDue task text status.Unbuilt = (length text ≤ task.limit) × task.Refuses text status.Unbuilt
 IsDue task text (status.TooLong limit) = (limit ≡ task.limit) × (task.limit < length text)
 IsDue task text status = ⊥
 
@@ -53,7 +52,6 @@ Ends task before after status.Ok =
     (due : List ℕ) × CameFor task before after due × Appends before.held after.held due
 Ends task before after (status.NotAccepted line rule) = CameRefused task before after (status.NotAccepted line rule)
 Ends task before after (status.BadLine number cause) = CameRefused task before after (status.BadLine number cause)
-Ends task before after status.Unbuilt = CameRefused task before after status.Unbuilt
 Ends task before after (status.TooLong limit) =
     Keeps before.held after.held × (limit ≡ task.limit)
     × (bytes : List ℕ) × (length bytes ≡ task.limit + 1) × Consumes before.left after.left bytes

@@ -1,6 +1,6 @@
 // The calls of a corrupt server's core. It keeps its place in the group.
 ghost use Rattle.std.specs.Prelude.{◌≡◌, OnOk};
-ghost use Rattle.dn_world.specs.Sound.{IsOfGroup};
+ghost use Rattle.dn_state.specs.Sound.{IsOfGroup};
 ghost use Rattle.dn_puppets.specs.Statements.{IsSignable};
 
 use dn_accuse::Judging;

@@ -1,6 +1,6 @@
 // A corrupt server.
 ghost use Rattle.std.specs.Prelude.{◌≡◌, ◌<◌, ◌≤◌, IfOk, OnOk};
-ghost use Rattle.dn_world.specs.Sound.{IsOfGroup};
+ghost use Rattle.dn_state.specs.Sound.{IsOfGroup};
 ghost use Rattle.dn_puppets.specs.Statements.{IsSignable};
 
 use crate::injection::{Injection, put_to};

@@ -18,7 +18,7 @@ use Rattle.dn_report.specs.declared.outcome.Outcome.{Outcome}
 use Rattle.dn_report.specs.declared.outcome.Outcome.TheVariants as outcomes
 use Rattle.dn_report.specs.Lines.{line_text}
 use Rattle.dn_world.specs.declared.step.Step.{Step}
-use Rattle.dn_world.specs.declared.world.Audit.{Audit}
+use Rattle.dn_state.specs.declared.reading.Audit.{Audit}
 use Rattle.dn_run_report.specs.declared.shown.Shown.{Shown}
 use Rattle.dn_run_report.specs.declared.shown.Shown.TheVariants as shown
 

@@ -3,6 +3,7 @@ ghost use Rattle.std.specs.List.{flat_map};
 ghost use Rattle.std.specs.Io.KnownBytes.{Appends};
 ghost use Rattle.dn_io.specs.Sink.{AppendsFront};
 ghost use Rattle.dn_io.specs.Writing.{AppendsAllBut, CountsWrite};
+ghost use Rattle.dn_world.specs.Kept.{Vouches};
 ghost use Rattle.dn_run_report.specs.Report.{head_lines, shown_lines, last_lines, lines_text, report_text};
 
 use crate::head::put_head;
@@ -93,7 +94,8 @@ impl Played {
         world: World,
         shown: Vec<Shown>,
     ) -> Played
-        ensures { result ≡ record { group = group; roster = roster; corrupt = corrupt; history = world.history; shown = shown.items; audit = result.audit } }
+        ensures of { result ≡ record { group = group; roster = roster; corrupt = corrupt; history = world.history; shown = shown.items; audit = result.audit } }
+        ensures vouches { Vouches world result.audit }
     {
         let audit = world.audit();
         Played {

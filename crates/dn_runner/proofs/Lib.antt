@@ -1,3 +1,5 @@
+pub mod GroupLemmas
 mod MemberLemmas
 mod OrderLemmas
 mod RaceLemmas
+pub mod TellingLemmas

@@ -4,7 +4,7 @@ use Rattle.std.proofs.lemmas.List.{length_push}
 use Rattle.std.proofs.lemmas.List.Elements.{All-push}
 use Rattle.dn_roster.proofs.DealingLemmas.{range-more}
 use Rattle.dn_world.specs.declared.step.Step.{Step}
-use Rattle.dn_world.specs.Events.{IsWithinLimits}
+use Rattle.dn_state.specs.Events.{IsWithinLimits}
 use Rattle.dn_run_report.specs.declared.shown.Shown.{Shown}
 use Rattle.dn_run_report.specs.declared.shown.Shown.TheVariants as shown
 use Rattle.dn_run_report.specs.Report.{events_shown, numbers_below}

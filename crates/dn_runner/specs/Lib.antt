@@ -1,3 +1,4 @@
 pub mod Play
 pub mod Played
 pub mod Racing
+pub mod Inside

@@ -1,6 +1,7 @@
 -- Which runs a script can come to.
-use Rattle.std.specs.Prelude.{◌≡◌, ◌==◌, if◌then◌else◌, ℕ, zero, suc, Bool, false, List, [], ◌∷◌, ◌++◌, length, All, Option, Some, None}
+use Rattle.std.specs.Prelude.{◌≡◌, ◌==◌, if◌then◌else◌, ℕ, zero, suc, Bool, false, List, [], ◌∷◌, ◌++◌, length, map, All, Option, Some, None}
 use Rattle.std.specs.List.{list_any}
+use Rattle.dn_wire.specs.declared.ids.ClientId.{ClientId}
 use Rattle.dn_wire.specs.declared.ids.Member.{Member}
 use Rattle.dn_wire.specs.declared.ids.Member.TheVariants as members
 use Rattle.dn_roster.specs.declared.group.GroupSpec.{GroupSpec}
@@ -9,7 +10,12 @@ use Rattle.dn_seal.specs.Dealt.{dealt_roster}
 use Rattle.dn_script.specs.declared.script_line.ScriptLine.{ScriptLine}
 use Rattle.dn_script.specs.declared.script_line.ScriptLine.TheVariants as lines
 use Rattle.dn_script.specs.Script.{Lines}
-use Rattle.dn_world.specs.Events as events
+use Rattle.dn_state.specs.Events as events
+use Rattle.dn_headline.specs.Run.{RunView}
+use Rattle.dn_headline.specs.Clean.{Clean}
+use Rattle.dn_steps.specs.Dealt.{IsDealtGroup}
+use Rattle.dn_world.specs.Promises.{KeepsPromises}
+use Rattle.dn_world.specs.Kept.{SaysYes, step_of}
 use Rattle.dn_run_report.specs.Report.{PlayedView, events_shown, numbers_below}
 
 -- the group that a line says, if it is a group's first line
@@ -29,6 +35,12 @@ group_in line = None
 abbrev pub group_of : Lines → Option GroupSpec
 group_of [] = None
 group_of (line ∷ rest) = group_in line.1
+
+-- the script says a group in its first line, within the limits of groups
+pub record HasGroup (script : Lines) : Type 0 where
+  pub group : GroupSpec
+  pub says : group_of script ≡ Some group
+  pub limits : IsWithinLimits group
 
 -- the members that a line says are corrupt
 abbrev pub corrupt_in : ScriptLine → List Member
@@ -63,6 +75,16 @@ clients_among named (suc i) = clients_among named i ++ (if list_any (is_client i
 abbrev pub in_order : GroupSpec → List Member → List Member
 in_order group named = servers_among named group.servers ++ clients_among named group.clients
 
+-- What is told is a run of the group as it was dealt, with the corrupt members that the script names, of these events with what came of them. The
+-- promises hold of it; and it is clean where the audit says yes three times.
+pub record TellsRun (script : Lines) (p : PlayedView) : Type 0 where
+  pub run : RunView
+  pub owners : List ClientId
+  pub dealt : IsDealtGroup p.group owners (corrupt_of script) run.group
+  pub history : run.history ≡ map step_of p.history
+  pub promises : KeepsPromises run
+  pub clean : SaysYes p.audit → Clean run
+
 -- A run that a script can come to: of the script's group, dealt from its seed, with its corrupt members; of events within their limits,
 -- which are shown in their order, each once.
 pub record IsPlayOf (script : Lines) (p : PlayedView) : Type 0 where
@@ -72,3 +94,4 @@ pub record IsPlayOf (script : Lines) (p : PlayedView) : Type 0 where
   pub corrupt : p.corrupt ≡ in_order p.group (corrupt_of script)
   pub events : All (λ s. events.IsWithinLimits s.event) p.history
   pub shown : events_shown p.shown ≡ numbers_below (length p.history)
+  pub tells : TellsRun script p

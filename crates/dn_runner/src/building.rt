@@ -1,15 +1,15 @@
 // The group of a script, and its corrupt members.
-ghost use Rattle.std.specs.Prelude.{◌≡◌, IfSome};
+ghost use Rattle.std.specs.Prelude.{◌≡◌, MatchOption, Some};
 ghost use Rattle.dn_roster.specs.Group.{IsWithinLimits};
-ghost use Rattle.dn_runner.specs.Play.{corrupt_of, group_of};
+ghost use Rattle.dn_runner.specs.Play.{HasGroup, corrupt_of, group_of};
 
 use dn_roster::GroupSpec;
 use dn_script::{Script, ScriptLine};
 use dn_wire::Member;
 
+/// The group, where it is within the limits of groups.
 fn within_limits(group: GroupSpec) -> Option<GroupSpec>
-    ensures limits { IfSome result IsWithinLimits }
-    ensures same { IfSome result (λ g. g ≡ group) }
+    ensures { MatchOption result (¬ IsWithinLimits group) (λ g. (g ≡ group) × IsWithinLimits g) }
 {
     if group.version < 1 || 2 < group.version {
         return None;
@@ -30,10 +30,9 @@ fn within_limits(group: GroupSpec) -> Option<GroupSpec>
     Some(group)
 }
 
-/// The group of a script's first line.
+/// The group of a script's first line; None exactly where that says none within the limits.
 pub fn group_of(script: &Script) -> Option<GroupSpec>
-    ensures limits { IfSome result IsWithinLimits }
-    ensures group { IfSome result (λ group. group_of script.now ≡ Some group) }
+    ensures { MatchOption result (¬ HasGroup script.now) (λ group. (group_of script.now ≡ Some group) × IsWithinLimits group) }
 {
     let (_, line) = script.lines().first()?;
     match line {

@@ -74,7 +74,7 @@ fn first_entry(alloc: Global, world: &World) -> Result<(Vec<Passing>, Vec<Letter
 
 /// A twin of a server's core; none where it is corrupt.
 fn twin_of(run: &Run, server: ServerId) -> Result<Option<ServerCore>, NoMemory>
-    ensures { IfOk result (λ twin. IfSome twin (λ core. core.seat.roster ≡ dealt_roster run.now.group)) }
+    ensures { IfOk result (λ twin. IfSome twin (λ core. core.seat.roster ≡ dealt_roster run.now.group.spec)) }
 {
     match run.world.server(server) {
         Some(core) => Ok(Some(core.twin()?)),
@@ -84,8 +84,8 @@ fn twin_of(run: &Run, server: ServerId) -> Result<Option<ServerCore>, NoMemory>
 
 /// A twin of each honest server's core, by number.
 fn twins(run: &Run) -> Result<Vec<ServerCore>, NoMemory>
-    ensures few { IfOk result (λ v. vec_len v ≤ run.now.group.servers) }
-    ensures group { IfOk result (λ v. All (λ core. core.seat.roster ≡ dealt_roster run.now.group) v.items) }
+    ensures few { IfOk result (λ v. vec_len v ≤ run.now.group.spec.servers) }
+    ensures group { IfOk result (λ v. All (λ core. core.seat.roster ≡ dealt_roster run.now.group.spec) v.items) }
 {
     let mut cores = Vec::new(run.alloc);
     for j in 0..run.group.servers {
@@ -107,8 +107,8 @@ fn posts_of<R: Threads + Wait + Sync, C: Crew>(
     turns: u32,
 ) -> Result<Posts, NoMemory>
     requires turns { (1 ≤ turns) × (turns ≤ MAX_LIVE_TURNS) }
-    requires cores { (1 ≤ vec_len cores) × (vec_len cores ≤ run.now.group.servers) }
-    requires group { All (λ core. core.seat.roster ≡ dealt_roster run.now.group) cores.items }
+    requires cores { (1 ≤ vec_len cores) × (vec_len cores ≤ run.now.group.spec.servers) }
+    requires group { All (λ core. core.seat.roster ≡ dealt_roster run.now.group.spec) cores.items }
 {
     let board = Board::make(run.alloc, letters)?;
     let (lock, passes) = Turns::make(run.alloc, board, cores.len() as u32)?;

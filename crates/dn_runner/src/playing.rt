@@ -1,6 +1,6 @@
 // A script is run.
-ghost use Rattle.std.specs.Prelude.{IfOk, IfSome};
-ghost use Rattle.dn_runner.specs.Play.{IsPlayOf};
+ghost use Rattle.std.specs.Prelude.{IfOk, MatchOption};
+ghost use Rattle.dn_runner.specs.Play.{HasGroup, IsPlayOf};
 
 use crate::building::{corrupt_of, group_of};
 use crate::expanding::run_lines;
@@ -20,14 +20,14 @@ use std::thread::Threads;
 /// How many workers add up a server's pads.
 const WORKERS: u32 = 4;
 
-/// Runs the script of a group; none where the script has no group. The crew does the threads' work of races and live runs.
+/// Runs the script of a group; None exactly where its first line says no group. The crew does the threads' work of races and live runs.
 pub fn play<R: Threads + Wait + Sync, C: Crew>(
     rt: &R,
     alloc: Global,
     crew: &mut C,
     script: &Script,
 ) -> Result<Option<Played>, NoMemory>
-    ensures { IfOk result (λ played. IfSome played (IsPlayOf script.now)) }
+    ensures { IfOk result (λ played. MatchOption played (¬ HasGroup script.now) (IsPlayOf script.now)) }
 {
     let Some(group) = group_of(script) else {
         return Ok(None);

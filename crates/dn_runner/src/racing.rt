@@ -73,9 +73,9 @@ fn submit<R: Threads + Sync>(
     r: Round,
     list: &mut Vec<(ClientId, u64)>,
 ) -> Result<(), NoMemory>
-    requires { CanRace run.old.group.clients list.old.items }
+    requires { CanRace run.old.group.spec.clients list.old.items }
     ensures group { run.new.group ≡ run.old.group }
-    ensures list { OnOk result (CanRace run.old.group.clients list.new.items) }
+    ensures list { OnOk result (CanRace run.old.group.spec.clients list.new.items) }
 {
     run.step(rt, Event::Submit { client, server, r })?;
     match last_sent(&run.world) {
@@ -94,7 +94,7 @@ fn submit_all<R: Threads + Sync>(
     clients: &[Member],
 ) -> Result<Vec<(ClientId, u64)>, NoMemory>
     ensures group { run.new.group ≡ run.old.group }
-    ensures list { IfOk result (λ list. CanRace run.old.group.clients list.items) }
+    ensures list { IfOk result (λ list. CanRace run.old.group.spec.clients list.items) }
 {
     let mut list = Vec::new(run.alloc);
     for member in clients {
@@ -107,7 +107,7 @@ fn submit_all<R: Threads + Sync>(
 
 /// The clients that have a claim at a server already.
 fn claimed(run: &Run, server: ServerId) -> Result<Vec<ClientId>, NoMemory>
-    ensures { IfOk result (λ v. All (λ c. c.0 < run.now.group.clients) v.items) }
+    ensures { IfOk result (λ v. All (λ c. c.0 < run.now.group.spec.clients) v.items) }
 {
     let mut claimed = Vec::new(run.alloc);
     let Some(core) = run.world.server(server) else {
@@ -130,7 +130,7 @@ fn order_of<R: Threads + Wait + Sync, C: Crew>(
     workers: u32,
     list: &[(ClientId, u64)],
 ) -> Result<Order, NoMemory>
-    requires list { CanRace run.now.group.clients list.now }
+    requires list { CanRace run.now.group.spec.clients list.now }
     requires workers { (1 ≤ workers) × (workers ≤ MAX_RACE_WORKERS) }
 {
     let before = claimed(run, server)?;

@@ -1,5 +1,5 @@
 ghost use Rattle.std.specs.Prelude.{◌≡◌, IsTrue};
-ghost use Rattle.dn_world.specs.Events.{IsWithinLimits};
+ghost use Rattle.dn_state.specs.Events.{IsWithinLimits};
 ghost use Rattle.dn_runner.specs.Played.{IsMark};
 
 use dn_memory::NoMemory;
@@ -40,13 +40,15 @@ fn is_within(event: &Event) -> bool
 }
 
 impl Model for Run {
-    ghost use Rattle.dn_runner.specs.Played.{RunView, IsKept};
+    ghost use Rattle.dn_runner.specs.Played.{RunView};
 
     ghost Value = { RunView };
 
-    ghost view = { λ r. record { group = r.group; history = r.world.history; shown = r.shown.items } };
+    ghost use Rattle.dn_runner.specs.Inside.{view_of, Keeps};
 
-    ghost invariant = { λ r. IsKept record { group = r.group; history = r.world.history; shown = r.shown.items } r.roster r.world.roster r.puppets };
+    ghost view = { view_of };
+
+    ghost invariant = { Keeps };
 }
 
 impl Run {

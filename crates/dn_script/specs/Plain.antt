@@ -79,12 +79,6 @@ pub record SpellsPlain (text : List ℕ) (p : Plain) : Type 0 where
   pub spells : Spells text script
   pub plain : plain_of script ≡ Some p
 
--- a text spells a script of a group
-pub record SpellsGroup (text : List ℕ) : Type 0 where
-  pub script : Lines
-  pub spells : Spells text script
-  pub other : plain_of script ≡ None
-
 -- ---- its limits
 
 -- a line keeps the limits of a round of so many clients and bits

@@ -1,6 +1,6 @@
 -- A client accuses.
 use Rattle.std.proofs.Common.{◌≡◌, ℕ, List, [], ◌∷◌, refl, sym, ap, subst, ◌∙◌, inl, inr, true}
-use Rattle.std.specs.Prelude.{Contains, Some}
+use Rattle.std.specs.Prelude.{Contains, slice_get, Some}
 use Rattle.std.proofs.lemmas.List.Elements.{All-contains, Contains-append_right}
 use Rattle.dn_wire.specs.declared.ids.ClientId.{ClientId}
 use Rattle.dn_wire.specs.declared.ids.Round.{Round}
@@ -11,16 +11,17 @@ use Rattle.dn_records.specs.Records.{payload_bytes}
 use Rattle.dn_seal.specs.Said.{Unseals}
 use Rattle.dn_cert.proofs.Orders.{here}
 use Rattle.dn_client.specs.declared.accused.Accused.{Accused}
-use Rattle.dn_client.specs.Client.{ClientView, IsIn, IsAccused, accusation_of}
+use Rattle.dn_client.specs.Client.{ClientView, Identity, IsIn, IsAccused, accusation_of}
 use Rattle.dn_client.specs.Accusing.{Accuses, accused_of}
 use Rattle.dn_client.proofs.Envelopes.{accusation_unseals}
 use Rattle.dn_report.specs.declared.event.Event.TheVariants as events
 use Rattle.dn_report.specs.declared.outcome.Outcome.{Outcome}
-use Rattle.dn_world.specs.Parts.{PartsView}
-use Rattle.dn_world.specs.Doing.{own}
-use Rattle.dn_world.specs.Members.{client_at, with_client, all_servers}
-use Rattle.dn_world.specs.Calling.{AccusesAt, AccusesAll}
-use Rattle.dn_world.specs.Calling.AccusesAt.{accuses as accuses_so, refuses, rests}
+use Rattle.dn_report.specs.declared.outcome.Outcome.TheVariants as outcomes
+use Rattle.dn_state.specs.Parts.{PartsView}
+use Rattle.dn_state.specs.Doing.{own}
+use Rattle.dn_state.specs.Members.{client_at, with_client, all_servers}
+use Rattle.dn_state.specs.Calling.{AccusesAt, AccusesAll}
+use Rattle.dn_state.specs.Calling.AccusesAt.{accuses as accuses_so, refuses, rests}
 use Rattle.dn_headline.specs.Log.{Step, Log, with_outcomes}
 use Rattle.dn_headline.specs.Run.{RunView, log}
 use Rattle.dn_headline.specs.Plains.{texts_of}
@@ -36,8 +37,9 @@ use Rattle.dn_steps.proofs.Runs.{next_run, log_next, step_cases, is_of_put, put_
 use Rattle.dn_steps.proofs.Quiet.{texts_rest}
 use Rattle.dn_steps.proofs.Saying.{client_fits_too}
 use Rattle.dn_steps.proofs.Idle.{IsCalm, no_lines, one_ignored, other_step, idle_is_tied}
-use Rattle.dn_steps.proofs.OwnPuts.{StandsAlone, put_by_client, plain_stands, plain_goes, no_client_key}
+use Rattle.dn_steps.proofs.OwnPuts.{StandsAlone, put_by_client, plain_stands, plain_fronts, plain_goes, no_client_key}
 use Rattle.dn_steps.proofs.OneClient.{turned}
+use Rattle.dn_steps.proofs.Unputting.{KeepsFronts, none_unput, one_unput, unput_keeps}
 
 accusing_is_calm : (i : ClientId) (r : Round) (k : ℕ) → IsCalm (events.Accuse i r k)
 accusing_is_calm i r k = record { removes = λ l lines. refl; delivers = λ id e. absurd cc; judges = λ q n e. absurd cc }
@@ -150,6 +152,16 @@ module _ (w : RunView) (old new : PartsView) (i : ClientId) (r : Round) (k : ℕ
         ];
       })
 
+  owns : slice_get w.group.owners d.who.slot.0 ≡ Some i
+  owns =
+      let h = client_is_honest w old tied i c at_c in
+      subst (λ (z : Identity). slice_get w.group.owners z.slot.0 ≡ Some i) (sym a.who)
+      (subst (λ (z : ClientView). slice_get w.group.owners z.who.slot.0 ≡ Some i) (client_core_is old i c at_c) (tied.clients i h).linked.owns)
+
+  pub accused_fronts : KeepsFronts w v
+  accused_fronts =
+      plain_fronts w v i (all_servers mid) bytes (log w) new lines so refl at to.envelope refl (Slot d.who.slot) (accusation_of d.who a.accused) unseals (i, owns, refl)
+
 -- a client accuses, or refuses, or isn't there
 pub accuse_is_tied : (w : RunView) (old new : PartsView) (i : ClientId) (r : Round) (k : ℕ) (lines : List Outcome) → IsTied w old → AccusesAt i r k old new lines
     → IsTied (next_run w (record { event = events.Accuse i r k; outcomes = lines }) w.plains w.sums) new
@@ -160,3 +172,10 @@ accuse_is_tied w old new i r k lines tied (refuses c at_c nothing) =
 accuse_is_tied w old new i r k lines tied (rests none becomes) =
     subst (λ (os : List Outcome). IsTied (next_run w (record { event = events.Accuse i r k; outcomes = os }) w.plains w.sums) new) (sym becomes.1)
     (idle_is_tied w old (events.Accuse i r k) [] tied (accusing_is_calm i r k) no_lines (λ n h. refl) new becomes.0)
+
+pub accuse_fronts : (w : RunView) (old new : PartsView) (i : ClientId) (r : Round) (k : ℕ) (lines : List Outcome) → IsTied w old → AccusesAt i r k old new lines
+    → KeepsFronts w (next_run w (record { event = events.Accuse i r k; outcomes = lines }) w.plains w.sums)
+accuse_fronts w old new i r k lines tied (accuses_so c at_c to) = accused_fronts w old new i r k lines tied c at_c to
+accuse_fronts w old new i r k lines tied (refuses c at_c nothing) =
+    unput_keeps w (events.Accuse i r k) lines w.plains w.sums (one_unput (outcomes.Ignored nothing.told.why) lines nothing.told.tells.1 refl)
+accuse_fronts w old new i r k lines tied (rests none becomes) = unput_keeps w (events.Accuse i r k) lines w.plains w.sums (none_unput lines becomes.1)

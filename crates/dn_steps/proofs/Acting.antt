@@ -1,25 +1,22 @@
--- What the log becomes where a server's acts are carried out, but for a certificate that it made.
+-- What the log becomes where a server's acts are carried out.
 use Rattle.std.proofs.Common.{◌≡◌, ℕ, ◌<◌, List, [], ◌∷◌, ◌++◌, length, refl, sym, ap, subst, ◌∙◌, inl, inr, Bool, true, false}
-use Rattle.std.specs.Prelude.{Contains, ◌⊎◌, Some}
+use Rattle.std.specs.Prelude.{Contains, ◌⊎◌, Option, Some}
 use Rattle.std.proofs.lemmas.Option.{same_Some}
 use Rattle.std.proofs.lemmas.List.Elements.{Contains-append_left, Contains-append_right, Contains-append_cases}
 use Rattle.dn_wire.specs.declared.ids.Member.{Member}
 use Rattle.dn_wire.specs.declared.ids.Member.TheVariants as members
 use Rattle.dn_wire.specs.declared.ids.ServerId.{ServerId}
 use Rattle.dn_wire.specs.declared.ids.Round.{Round}
-use Rattle.dn_record_types.specs.declared.payload.Payload.TheVariants as payloads
-use Rattle.dn_records.specs.Records.{payload_bytes}
-use Rattle.dn_cert.specs.Certificate.{CertificateView}
 use Rattle.dn_cert.proofs.Orders.{here, later, nothing, first_or_later}
 use Rattle.dn_server.specs.declared.act.Act.{Act}
 use Rattle.dn_server.specs.declared.act.Act.TheVariants as acts
 use Rattle.dn_report.specs.declared.outcome.Outcome.{Outcome}
 use Rattle.dn_report.specs.declared.outcome.Outcome.TheVariants as outcomes
-use Rattle.dn_world.specs.Parts.{PartsView}
-use Rattle.dn_world.specs.Words.{spoil_word_of}
-use Rattle.dn_world.specs.Doing.{InTurn, own}
-use Rattle.dn_world.specs.Putting.{Puts}
-use Rattle.dn_world.specs.Acting.{Acts, line_of}
+use Rattle.dn_state.specs.Parts.{PartsView}
+use Rattle.dn_state.specs.Words.{spoil_word_of}
+use Rattle.dn_state.specs.Doing.{own}
+use Rattle.dn_state.specs.Putting.{Puts}
+use Rattle.dn_state.specs.Acting.{Acts, line_of}
 use Rattle.dn_headline.specs.Group.{GroupView}
 use Rattle.dn_headline.specs.Log.{Log, Message, Put, message_of, actor_after, with_outcome, with_outcomes, AreNumbered}
 use Rattle.dn_steps.specs.Fitting.{FitsLog}
@@ -28,13 +25,13 @@ use Rattle.dn_steps.proofs.Sending.{put_of, message_from, IsSentOrLost, flying_w
 use Rattle.dn_steps.proofs.Putting.{PutsSo, GoesOrIsOther, puts_so}
 use Rattle.dn_steps.proofs.PutLines.{puts_lines, puts_keep_members}
 use Rattle.dn_steps.proofs.Resting.{SameMembers, same_members}
-use Rattle.dn_steps.proofs.Runs.{is_of_put, unput_lines}
-use Rattle.dn_steps.proofs.OwnPuts.{plain_goes}
+use Rattle.dn_steps.proofs.Runs.{is_quiet, is_of_put, unput_lines}
+use Rattle.dn_steps.proofs.Taking.{IsPlain}
 
 -- ---- lines after lines
 
 -- who puts after some lines
-pub actors_after : Member → List Outcome → Member
+unfoldable pub actors_after : Member → List Outcome → Member
 actors_after actor [] = actor
 actors_after actor (o ∷ os) = actors_after (actor_after actor o) os
 
@@ -57,13 +54,13 @@ actors_both actor (o ∷ os) more = actors_both (actor_after actor o) os more
 
 -- ---- acts
 
--- none of the acts is a certificate that the server made, and what it posts are plain payloads
-pub record PostsPlain (did : List Act) : Type 0 where
-  pub none : (e : CertificateView) → ¬ Contains did (acts.Certified e)
-  pub plain : (to : List Member) (bytes : List ℕ) → Contains did (acts.Post to bytes) → (e : List ℕ) × (bytes ≡ payload_bytes (payloads.Plain e))
+-- the line of an act that isn't of a put
+abbrev pub line_for : ServerId → Round → Act → Option Outcome
+line_for j last (acts.Certified e) = Some (outcomes.Certified j e.body.r)
+line_for j last a = line_of j last a
 
 -- The log after the acts: its numbers are right, it fits the parts, what is put newly are the server's posts, each post was put, and each of its
--- messages is in flight or lost; and a line tells of what is put, or of an act, and each act's line is told.
+-- messages is in flight or lost; and a line tells of what is put, or of an act, or nothing of servers, and each act's line is told.
 pub record ActsSo (g : GroupView) (j : ServerId) (last : Round) (did : List Act) (log : Log) (old new : PartsView) (lines : List Outcome) : Type 0 where
   pub numbered : AreNumbered true (members.Server j) log lines
   pub fits : FitsLog g (with_outcomes true (members.Server j) log lines) new
@@ -80,13 +77,13 @@ pub record ActsSo (g : GroupView) (j : ServerId) (last : Round) (did : List Act)
       → (id < length (with_outcomes true (members.Server j) log lines).sent) × (message_of (with_outcomes true (members.Server j) log lines) id ≡ message_of log id)
   pub flies : (id : ℕ) → Contains log.flight id → Contains (with_outcomes true (members.Server j) log lines).flight id
   pub lost : (m : Message) → Contains log.lost m → Contains (with_outcomes true (members.Server j) log lines).lost m
-  pub line : (o : Outcome) → Contains lines o → (is_of_put o ≡ true) ⊎ ((a : Act) × Contains did a × (line_of j last a ≡ Some o))
-  pub told : (a : Act) (o : Outcome) → Contains did a → line_of j last a ≡ Some o → Contains lines o
+  pub line : (o : Outcome) → Contains lines o → (is_of_put o ≡ true) ⊎ (((a : Act) × Contains did a × (line_for j last a ≡ Some o)) ⊎ IsPlain o)
+  pub told : (a : Act) (o : Outcome) → Contains did a → line_for j last a ≡ Some o → Contains lines o
   pub actor : actors_after (members.Server j) lines ≡ members.Server j
 
 -- ---- no act
 
-no_act : (g : GroupView) (j : ServerId) (last : Round) (log : Log) (old : PartsView) → FitsLog g log old → ActsSo g j last [] log old old []
+pub no_act : (g : GroupView) (j : ServerId) (last : Round) (log : Log) (old : PartsView) → FitsLog g log old → ActsSo g j last [] log old old []
 unfolding with_outcomes actors_after
 no_act g j last log old fits = record {
   numbered = tt;
@@ -106,6 +103,47 @@ no_act g j last log old fits = record {
   actor = refl;
 }
 
+-- lines that tell nothing of servers don't change who puts
+
+quiet_stays : (actor : Member) (o : Outcome) → is_quiet o ≡ true → actor_after actor o ≡ actor
+quiet_stays actor (outcomes.Closed j r count) e = absurd cc
+quiet_stays actor _ e = refl
+
+pub quiet_stay : (actor : Member) (lines : List Outcome) → ((o : Outcome) → Contains lines o → is_quiet o ≡ true) → actors_after actor lines ≡ actor
+unfolding actors_after
+quiet_stay actor [] quiet = refl
+quiet_stay actor (o ∷ os) quiet =
+    subst (λ (a : Member). actors_after a os ≡ actor) (sym (quiet_stays actor o (quiet o (here o os)))) (quiet_stay actor os (λ x h. quiet x (later o os x h)))
+
+pub certified_first : (j : ServerId) (r : Round) (lines : List Outcome) → actors_after (members.Server j) (outcomes.Certified j r ∷ lines) ≡ actors_after (members.Server j) lines
+unfolding actors_after
+certified_first j r lines = refl
+
+-- no act, and a line that tells nothing of servers
+pub plain_so : (g : GroupView) (j : ServerId) (last : Round) (line : Outcome) (log : Log) (old new : PartsView) (lines : List Outcome) → FitsLog g log old → IsPlain line
+    → new ≡ old → lines ≡ line ∷ [] → ActsSo g j last [] log old new lines
+unfolding actors_after
+plain_so g j last line log old new lines fits plain same is =
+    let un = unput_lines true (members.Server j) log (line ∷ []) (λ x h. ap is_of_put (sym (only line x h)) ∙ plain.unput) in
+    let at : with_outcomes true (members.Server j) log (line ∷ []) ≡ log = un.0 in
+    subst (ActsSo g j last [] log old new) (sym is) (subst (λ (z : PartsView). ActsSo g j last [] log old z (line ∷ [])) (sym same) (record {
+      numbered = un.1;
+      fits = subst (λ (l : Log). FitsLog g l old) (sym at) fits;
+      same = same_members old;
+      more = [];
+      puts = ap (λ (l : Log). l.puts) at ∙ no_more log.puts;
+      each = λ p h. absurd (nothing p h);
+      put = λ to bytes h. absurd (nothing _ h);
+      fates = λ to bytes m h r. absurd (nothing _ h);
+      delivered = ap (λ (l : Log). l.delivered) at;
+      sent = λ id lt. (subst (λ (l : Log). id < length l.sent) (sym at) lt, ap (λ (l : Log). message_of l id) at);
+      flies = λ id h. subst (λ (l : Log). Contains l.flight id) (sym at) h;
+      lost = λ m h. subst (λ (l : Log). Contains l.lost m) (sym at) h;
+      line = λ o h. inr (inr (subst IsPlain (only line o h) plain));
+      told = λ a o h e. absurd (nothing a h);
+      actor = quiet_stay (members.Server j) (line ∷ []) (λ o h. ap is_quiet (sym (only line o h)) ∙ plain.quiet);
+    }))
+
 -- ---- one act
 
 -- lines of puts don't change who puts
@@ -115,17 +153,16 @@ put_stays actor (outcomes.Sent id payload to) e = refl
 put_stays actor (outcomes.Full payload to) e = refl
 put_stays actor _ e = absurd cc
 
-puts_stay : (actor : Member) (lines : List Outcome) → ((o : Outcome) → Contains lines o → is_of_put o ≡ true) → actors_after actor lines ≡ actor
+pub puts_stay : (actor : Member) (lines : List Outcome) → ((o : Outcome) → Contains lines o → is_of_put o ≡ true) → actors_after actor lines ≡ actor
 unfolding actors_after
 puts_stay actor [] puts = refl
 puts_stay actor (o ∷ os) puts =
     subst (λ (a : Member). actors_after a os ≡ actor) (sym (put_stays actor o (puts o (here o os)))) (puts_stay actor os (λ x h. puts x (later o os x h)))
 
-post_so : (g : GroupView) (j : ServerId) (last : Round) (to : List Member) (bytes : List ℕ) (log : Log) (old new : PartsView) (lines : List Outcome) → FitsLog g log old
-    → old.payloads.roster ≡ g.roster → (e : List ℕ) × (bytes ≡ payload_bytes (payloads.Plain e)) → Puts old (own (members.Server j)) to bytes new lines
+pub post_so : (g : GroupView) (j : ServerId) (last : Round) (to : List Member) (bytes : List ℕ) (log : Log) (old new : PartsView) (lines : List Outcome) → FitsLog g log old
+    → old.payloads.roster ≡ g.roster → GoesOrIsOther g.roster bytes to → Puts old (own (members.Server j)) to bytes new lines
     → ActsSo g j last (acts.Post to bytes ∷ []) log old new lines
-post_so g j last to bytes log old new lines fits opens plain puts =
-    let goes = subst (λ (b : List ℕ). GoesOrIsOther g.roster b to) (sym plain.1) (plain_goes g.roster plain.0 to) in
+post_so g j last to bytes log old new lines fits opens goes puts =
     let so : PutsSo g true (members.Server j) to bytes log new lines = puts_so g log old new (own (members.Server j)) to bytes lines fits opens goes puts in
     let of_put = puts_lines old new (own (members.Server j)) to bytes lines puts in
     record {
@@ -152,12 +189,12 @@ post_so g j last to bytes log old new lines fits opens plain puts =
     post_same : (s r : List Member) (b c : List ℕ) → acts.Post s b ≡ acts.Post r c → (s ≡ r) × (b ≡ c)
     post_same s r b c e = (cc, cc)
 
-    no_line : (a : Act) (o : Outcome) → acts.Post to bytes ≡ a → line_of j last a ≡ Some o → Contains lines o
-    no_line a o is e = let x : line_of j last (acts.Post to bytes) ≡ Some o = ap (line_of j last) is ∙ e in absurd cc
+    no_line : (a : Act) (o : Outcome) → acts.Post to bytes ≡ a → line_for j last a ≡ Some o → Contains lines o
+    no_line a o is e = let x : line_for j last (acts.Post to bytes) ≡ Some o = ap (line_for j last) is ∙ e in absurd cc
 
 -- an act that has a line and puts nothing
-line_so : (g : GroupView) (j : ServerId) (last : Round) (a : Act) (o : Outcome) (log : Log) (old new : PartsView) (lines : List Outcome) → FitsLog g log old
-    → line_of j last a ≡ Some o → is_of_put o ≡ false → actor_after (members.Server j) o ≡ members.Server j → ((to : List Member) (bytes : List ℕ) → a ≡ acts.Post to bytes → ⊥)
+pub line_so : (g : GroupView) (j : ServerId) (last : Round) (a : Act) (o : Outcome) (log : Log) (old new : PartsView) (lines : List Outcome) → FitsLog g log old
+    → line_for j last a ≡ Some o → is_of_put o ≡ false → actor_after (members.Server j) o ≡ members.Server j → ((to : List Member) (bytes : List ℕ) → a ≡ acts.Post to bytes → ⊥)
     → new ≡ old → lines ≡ o ∷ [] → ActsSo g j last (a ∷ []) log old new lines
 unfolding actors_after
 line_so g j last a o log old new lines fits has unput stays no_post same told =
@@ -176,26 +213,32 @@ line_so g j last a o log old new lines fits has unput stays no_post same told =
       sent = λ id lt. (subst (λ (l : Log). id < length l.sent) (sym is) lt, ap (λ (l : Log). message_of l id) is);
       flies = λ id h. subst (λ (l : Log). Contains l.flight id) (sym is) h;
       lost = λ m h. subst (λ (l : Log). Contains l.lost m) (sym is) h;
-      line = λ x h. inr (a, here a [], has ∙ ap Some (only o x h));
-      told = λ b x h e. subst (Contains (o ∷ [])) (same_Some o x (sym has ∙ ap (line_of j last) (only a b h) ∙ e)) (here o []);
+      line = λ x h. inr (inl (a, here a [], has ∙ ap Some (only o x h)));
+      told = λ b x h e. subst (Contains (o ∷ [])) (same_Some o x (sym has ∙ ap (line_for j last) (only a b h) ∙ e)) (here o []);
       actor = stays;
     }))
 
-one_act : (g : GroupView) (j : ServerId) (last : Round) (a : Act) (log : Log) (old new : PartsView) (lines : List Outcome) → FitsLog g log old → old.payloads.roster ≡ g.roster
-    → PostsPlain (a ∷ []) → Acts j last a old new lines → ActsSo g j last (a ∷ []) log old new lines
-one_act g j last (acts.Post to bytes) log old new lines fits opens plain does = post_so g j last to bytes log old new lines fits opens (plain.plain to bytes (here (acts.Post to bytes) [])) does
-one_act g j last (acts.Certified e) log old new lines fits opens plain does = absurd (plain.none e (here (acts.Certified e) []))
-one_act g j last (acts.Opened r prev) log old new lines fits opens plain does =
+-- the act puts nothing, and is no certificate
+abbrev pub IsTelling : Act → Type 0
+IsTelling (acts.Post to bytes) = ⊥
+IsTelling (acts.Certified e) = ⊥
+IsTelling _ = Unit {0}
+
+pub tells_so : (g : GroupView) (j : ServerId) (last : Round) (a : Act) (log : Log) (old new : PartsView) (lines : List Outcome) → FitsLog g log old → IsTelling a
+    → Acts j last a old new lines → ActsSo g j last (a ∷ []) log old new lines
+tells_so g j last (acts.Post to bytes) log old new lines fits is does = absurd is
+tells_so g j last (acts.Certified e) log old new lines fits is does = absurd is
+tells_so g j last (acts.Opened r prev) log old new lines fits is does =
     line_so g j last (acts.Opened r prev) (outcomes.Opened j r prev) log old new lines fits refl refl refl (λ to bytes e. absurd cc) does.0 does.1
-one_act g j last (acts.Told client r told) log old new lines fits opens plain does =
+tells_so g j last (acts.Told client r told) log old new lines fits is does =
     line_so g j last (acts.Told client r told) (outcomes.Told client j r told) log old new lines fits refl refl refl (λ to bytes e. absurd cc) does.0 does.1
-one_act g j last (acts.Closed r count) log old new lines fits opens plain does =
+tells_so g j last (acts.Closed r count) log old new lines fits is does =
     line_so g j last (acts.Closed r count) (outcomes.Closed j r count) log old new lines fits refl refl refl (λ to bytes e. absurd cc) does.0 does.1
-one_act g j last (acts.Spoiled by reason kept came) log old new lines fits opens plain does =
+tells_so g j last (acts.Spoiled by reason kept came) log old new lines fits is does =
     line_so g j last (acts.Spoiled by reason kept came) (outcomes.Spoiled j last by (spoil_word_of reason)) log old new lines fits refl refl refl (λ to bytes e. absurd cc) does.0 does.1
-one_act g j last (acts.Held r) log old new lines fits opens plain does =
+tells_so g j last (acts.Held r) log old new lines fits is does =
     line_so g j last (acts.Held r) (outcomes.Held (members.Server j) r) log old new lines fits refl refl refl (λ to bytes e. absurd cc) does.0 does.1
-one_act g j last acts.Abandoned log old new lines fits opens plain does =
+tells_so g j last acts.Abandoned log old new lines fits is does =
     line_so g j last acts.Abandoned (outcomes.Abandoned j last) log old new lines fits refl refl refl (λ to bytes e. absurd cc) does.0 does.1
 
 -- ---- one after the other
@@ -210,8 +253,8 @@ both_keep a b c f s = record {
   left = s.left ∙ f.left;
 }
 
-module _ (g : GroupView) (j : ServerId) (last : Round) (a : Act) (did : List Act) (log : Log) (old between new : PartsView) (first rest : List Outcome)
-    (one : ActsSo g j last (a ∷ []) log old between first) (two : ActsSo g j last did (with_outcomes true (members.Server j) log first) between new rest) where
+module _ (g : GroupView) (j : ServerId) (last : Round) (front did : List Act) (log : Log) (old between new : PartsView) (first rest : List Outcome)
+    (one : ActsSo g j last front log old between first) (two : ActsSo g j last did (with_outcomes true (members.Server j) log first) between new rest) where
   abbrev mid : Log
   mid = with_outcomes true (members.Server j) log first
 
@@ -221,9 +264,6 @@ module _ (g : GroupView) (j : ServerId) (last : Round) (a : Act) (did : List Act
   end_is : with_outcomes true (members.Server j) log (first ++ rest) ≡ end
   end_is = outcomes_after true (members.Server j) log first rest ∙ ap (λ (m : Member). with_outcomes true m mid rest) one.actor
 
-  in_all : (x : Act) → Contains (a ∷ []) x → Contains (a ∷ did) x
-  in_all x h = subst (Contains (a ∷ did)) (only a x h) (here a did)
-
   fate_on : (m : Message) → IsSentOrLost mid m → IsSentOrLost end m
   fate_on m fate =
       elim fate [
@@ -231,7 +271,7 @@ module _ (g : GroupView) (j : ServerId) (last : Round) (a : Act) (did : List Act
         | inr flies ↦ inr (flies.0, two.flies flies.0 flies.1, (two.sent flies.0 (flying_were_sent mid between.flight one.fits.flight flies.0 flies.1)).1 ∙ flies.2)
       ]
 
-  pub both_acts : ActsSo g j last (a ∷ did) log old new (first ++ rest)
+  pub both_acts : ActsSo g j last (front ++ did) log old new (first ++ rest)
   both_acts = record {
     numbered = numbered_after true (members.Server j) log first rest one.numbered (subst (λ (m : Member). AreNumbered true m mid rest) (sym one.actor) two.numbered);
     fits = subst (λ (l : Log). FitsLog g l new) (sym end_is) two.fits;
@@ -239,18 +279,18 @@ module _ (g : GroupView) (j : ServerId) (last : Round) (a : Act) (did : List Act
     more = one.more ++ two.more;
     puts = ap (λ (l : Log). l.puts) end_is ∙ two.puts ∙ ap (λ (ps : List Put). ps ++ two.more) one.puts ∙ both_ways log.puts one.more two.more;
     each = λ p h. elim (Contains-append_cases one.more two.more p h) [
-      | inl was ↦ let x = one.each p was in (x.0, x.1, in_all (acts.Post x.0 x.1) x.2, x.3)
-      | inr now ↦ let x = two.each p now in (x.0, x.1, later a did (acts.Post x.0 x.1) x.2, x.3)
+      | inl was ↦ let x = one.each p was in (x.0, x.1, Contains-append_left front did (acts.Post x.0 x.1) x.2, x.3)
+      | inr now ↦ let x = two.each p now in (x.0, x.1, Contains-append_right front did (acts.Post x.0 x.1) x.2, x.3)
     ];
-    put = λ to bytes h. elim (first_or_later a did (acts.Post to bytes) h) [
+    put = λ to bytes h. elim (Contains-append_cases front did (acts.Post to bytes) h) [
       | inl e ↦
-          let p = one.put to bytes (subst (Contains (a ∷ [])) e (here a [])) in
+          let p = one.put to bytes e in
           (p.0, subst (λ (l : Log). Contains l.puts p.0) (sym end_is) (subst (λ (ps : List Put). Contains ps p.0) (sym two.puts) (Contains-append_left mid.puts two.more p.0 p.1)), p.2)
       | inr behind ↦ let p = two.put to bytes behind in (p.0, subst (λ (l : Log). Contains l.puts p.0) (sym end_is) p.1, p.2)
     ];
     fates = λ to bytes m h there. subst (λ (l : Log). IsSentOrLost l (message_from true (members.Server j) bytes m)) (sym end_is)
-        (elim (first_or_later a did (acts.Post to bytes) h) [
-          | inl e ↦ fate_on (message_from true (members.Server j) bytes m) (one.fates to bytes m (subst (Contains (a ∷ [])) e (here a [])) there)
+        (elim (Contains-append_cases front did (acts.Post to bytes) h) [
+          | inl e ↦ fate_on (message_from true (members.Server j) bytes m) (one.fates to bytes m e there)
           | inr behind ↦ two.fates to bytes m behind there
         ]);
     delivered = ap (λ (l : Log). l.delivered) end_is ∙ two.delivered ∙ one.delivered;
@@ -261,27 +301,12 @@ module _ (g : GroupView) (j : ServerId) (last : Round) (a : Act) (did : List Act
     flies = λ id h. subst (λ (l : Log). Contains l.flight id) (sym end_is) (two.flies id (one.flies id h));
     lost = λ m h. subst (λ (l : Log). Contains l.lost m) (sym end_is) (two.lost m (one.lost m h));
     line = λ o h. elim (Contains-append_cases first rest o h) [
-      | inl f ↦ elim (one.line o f) [ inl p ↦ inl p | inr x ↦ inr (x.0, in_all x.0 x.1, x.2) ]
-      | inr r ↦ elim (two.line o r) [ inl p ↦ inl p | inr x ↦ inr (x.0, later a did x.0 x.1, x.2) ]
+      | inl f ↦ elim (one.line o f) [ inl p ↦ inl p | inr x ↦ inr (elim x [ inl y ↦ inl (y.0, Contains-append_left front did y.0 y.1, y.2) | inr plain ↦ inr plain ]) ]
+      | inr r ↦ elim (two.line o r) [ inl p ↦ inl p | inr x ↦ inr (elim x [ inl y ↦ inl (y.0, Contains-append_right front did y.0 y.1, y.2) | inr plain ↦ inr plain ]) ]
     ];
-    told = λ x o h e. elim (first_or_later a did x h) [
-      | inl is ↦ Contains-append_left first rest o (one.told x o (subst (Contains (a ∷ [])) is (here a [])) e)
+    told = λ x o h e. elim (Contains-append_cases front did x h) [
+      | inl is ↦ Contains-append_left first rest o (one.told x o is e)
       | inr behind ↦ Contains-append_right first rest o (two.told x o behind e)
     ];
     actor = actors_both (members.Server j) first rest ∙ ap (λ (m : Member). actors_after m rest) one.actor ∙ two.actor;
   }
-
-pub acts_so : (g : GroupView) (j : ServerId) (last : Round) (did : List Act) (log : Log) (old new : PartsView) (lines : List Outcome) → FitsLog g log old
-    → old.payloads.roster ≡ g.roster → PostsPlain did → InTurn (Acts j last) did old new lines → ActsSo g j last did log old new lines
-acts_so g j last [] log old new lines fits opens plain does =
-    subst (ActsSo g j last [] log old new) (sym does.1) (subst (λ (z : PartsView). ActsSo g j last [] log old z []) (sym does.0) (no_act g j last log old fits))
-acts_so g j last (a ∷ did) log old new lines fits opens plain does =
-    let one = one_act g j last a log old does.between does.lines_first fits opens (record {
-      none = λ e h. plain.none e (subst (Contains (a ∷ did)) (only a (acts.Certified e) h) (here a did));
-      plain = λ to bytes h. plain.plain to bytes (subst (Contains (a ∷ did)) (only a (acts.Post to bytes) h) (here a did));
-    }) does.begins in
-    let two = acts_so g j last did (with_outcomes true (members.Server j) log does.lines_first) does.between new does.lines_rest one.fits (one.same.opens ∙ opens) (record {
-      none = λ e h. plain.none e (later a did (acts.Certified e) h);
-      plain = λ to bytes h. plain.plain to bytes (later a did (acts.Post to bytes) h);
-    }) does.goes_on in
-    subst (ActsSo g j last (a ∷ did) log old new) (sym does.told) (both_acts g j last a did log old does.between new does.lines_first does.lines_rest one two)

@@ -29,9 +29,9 @@ use Rattle.dn_payloads.specs.Payloads.{PayloadView, PayloadsView}
 use Rattle.dn_flight.specs.declared.msg.Msg.{Msg}
 use Rattle.dn_flight.specs.Flight.{FlightView}
 use Rattle.dn_audit.specs.Group.{is_corrupt as is_marked, is_member as is_named}
-use Rattle.dn_world.specs.Parts.{PartsView, IsWhole, HaveClients, HaveServers}
-use Rattle.dn_world.specs.Members.{client_at, core_in}
-use Rattle.dn_world.specs.Beginning.{Begins, IsFirstClient, IsClientPlace, server_place}
+use Rattle.dn_state.specs.Parts.{PartsView, IsWhole, HaveClients, HaveServers}
+use Rattle.dn_state.specs.Members.{client_at, core_in}
+use Rattle.dn_state.specs.Beginning.{Begins, IsFirstClient, IsClientPlace, server_place}
 use Rattle.dn_headline.specs.Group.{GroupView, clients_of, servers_of, seed_of, is_member, is_corrupt, IsHonestServer, IsHonestClient}
 use Rattle.dn_headline.specs.Log.{with_steps}
 use Rattle.dn_headline.specs.Run.{RunView, log}
@@ -67,10 +67,10 @@ module _ (group : GroupSpec) (owners : List ClientId) (corrupt : List Member) (w
   abbrev w : RunView
   w = first_run g
 
-  clients_are : clients_of g ≡ group.clients
+  pub clients_are : clients_of g ≡ group.clients
   clients_are = ap (λ (r : RosterView). length r.clients) dealt.roster ∙ length-public_keys group client group.clients (map public_key (keys_dealt_to group client group.clients)) refl
 
-  servers_are : servers_of g ≡ group.servers
+  pub servers_are : servers_of g ≡ group.servers
   servers_are = ap (λ (r : RosterView). length r.servers) dealt.roster ∙ length-public_keys group server group.servers (map public_key (keys_dealt_to group server group.servers)) refl
 
   -- ---- the group
@@ -83,7 +83,7 @@ module _ (group : GroupSpec) (owners : List ClientId) (corrupt : List Member) (w
       begins.members.of_servers j (subst (λ (n : ℕ). j.0 < n) servers_are among) ∙ same_any (is_named (members.Server j)) (is_member (members.Server j)) (same_name (members.Server j)) corrupt
       ∙ ap (list_any (is_member (members.Server j))) (sym dealt.marked)
 
-  fits_group : FitsGroup g parts
+  pub fits_group : FitsGroup g parts
   fits_group = record {
     is_roster = dealt.is_roster;
     roster = begins.roster_is;
@@ -160,7 +160,7 @@ module _ (group : GroupSpec) (owners : List ClientId) (corrupt : List Member) (w
 
   -- ---- servers
 
-  seed_is : (i j : ℕ) → i < group.clients → j < group.servers → seed_of g i j ≡ seed_dealt_to group i j
+  pub seed_is : (i j : ℕ) → i < group.clients → j < group.servers → seed_of g i j ≡ seed_dealt_to group i j
   seed_is i j low high =
       ap (λ (n : ℕ). slice_index_or g.seeds (i * n + j) []) servers_are ∙ ap (λ (ss : List (List ℕ)). slice_index_or ss (i * group.servers + j) []) dealt.seeds
       ∙ get_or_from_slice_get (each_pair (seed_dealt_to group) group.clients group.servers) (i * group.servers + j) (seed_dealt_to group i j) []
@@ -205,6 +205,7 @@ module _ (group : GroupSpec) (owners : List ClientId) (corrupt : List Member) (w
           (first_whole group g.roster j.0 workers is_group (first_sound group g.roster j.0 workers is_group within some few known (dealt.keys j.0 within))) refl;
       settled = λ on. absurd cc;
       none_ahead = none_ahead_begins g j (first j.0);
+      openings = record { evidence = λ said at. absurd (nothing said at); opened = λ place at. absurd (nothing place at) };
     })
 
     server_none : HoldsNone g (server_of parts j).chain × ((server_of parts j).run.is_running ≡ false) × ((server_of parts j).run.kept ≡ []) × ((server_of parts j).signed ≡ [])

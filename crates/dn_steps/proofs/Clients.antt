@@ -6,7 +6,7 @@ use Rattle.dn_wire.specs.declared.limits.TheConstants.{MAX_TEXT}
 use Rattle.dn_cert.proofs.Orders.{All-from_contains}
 use Rattle.dn_client.specs.declared.made.Made.{Made}
 use Rattle.dn_client.specs.Client.{ClientView, IsClient, IsMade, IsMadeOn}
-use Rattle.dn_world.specs.Calling.{with_text}
+use Rattle.dn_state.specs.Calling.{with_text}
 use Rattle.dn_steps.proofs.Places.{only}
 
 take_same : {A : Type 0} (n : ℕ) (xs ys : List A) → n ≤ length xs → take n (xs ++ ys) ≡ take n xs

@@ -22,8 +22,8 @@ use Rattle.dn_cert.proofs.GrowthLemmas.{held_comes}
 use Rattle.dn_payloads.specs.declared.content.Content.{Content}
 use Rattle.dn_payloads.specs.declared.content.Content.TheVariants as contents
 use Rattle.dn_payloads.specs.Payloads.{IsContent}
-use Rattle.dn_world.specs.Putting.{Follows, FollowsIn}
-use Rattle.dn_world.specs.Putting.Follows.{held as follows, stays}
+use Rattle.dn_state.specs.Putting.{Follows, FollowsIn}
+use Rattle.dn_state.specs.Putting.Follows.{held as follows, stays}
 use Rattle.dn_headline.specs.Log.{Put}
 use Rattle.dn_headline.specs.Certified.{IsCertificateOf, IsChainOf}
 use Rattle.dn_headline.specs.Certified.IsChainOf.{held, refused, other}

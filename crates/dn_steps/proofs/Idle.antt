@@ -9,7 +9,7 @@ use Rattle.dn_report.specs.declared.event.Event.TheVariants as events
 use Rattle.dn_report.specs.declared.outcome.Outcome.{Outcome}
 use Rattle.dn_report.specs.declared.outcome.Outcome.TheVariants as outcomes
 use Rattle.dn_report.specs.declared.words.IgnoredWord.{IgnoredWord}
-use Rattle.dn_world.specs.Parts.{PartsView}
+use Rattle.dn_state.specs.Parts.{PartsView}
 use Rattle.dn_headline.specs.Group.{IsHonestClient}
 use Rattle.dn_headline.specs.Log.{Step, Log, actor_of, is_own, with_outcomes, with_removal, AreNumbered}
 use Rattle.dn_headline.specs.Run.{RunView, log}

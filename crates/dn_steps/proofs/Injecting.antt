@@ -1,13 +1,14 @@
 -- A member puts bytes that are injected.
 use Rattle.std.proofs.Common.{◌≡◌, ℕ, ◌≤◌, List, [], ◌∷◌, ◌++◌, length, refl, sym, ap, subst, ◌∙◌, inl, inr, true, false, Bool}
 use Rattle.std.specs.Prelude.{Contains, slice_get, Some}
+use Rattle.std.proofs.lemmas.List.Elements.{Contains-append_cases}
 use Rattle.dn_wire.specs.declared.ids.Member.{Member}
 use Rattle.dn_report.specs.declared.event.Event.TheVariants as events
 use Rattle.dn_report.specs.declared.outcome.Outcome.{Outcome}
 use Rattle.dn_report.specs.declared.outcome.Outcome.TheVariants as outcomes
-use Rattle.dn_world.specs.Parts.{PartsView}
-use Rattle.dn_world.specs.Putting.{Puts}
-use Rattle.dn_world.specs.Doing.{injecting}
+use Rattle.dn_state.specs.Parts.{PartsView}
+use Rattle.dn_state.specs.Putting.{Puts}
+use Rattle.dn_state.specs.Doing.{injecting}
 use Rattle.dn_headline.specs.Log.{Step, Log, Put, with_outcomes}
 use Rattle.dn_headline.specs.Run.{RunView, log}
 use Rattle.dn_links.specs.Judging.{OtherStep}
@@ -18,6 +19,7 @@ use Rattle.dn_steps.proofs.Putting.{PutsSo, puts_so}
 use Rattle.dn_steps.proofs.Runs.{next_run, log_next, step_cases, is_of_put, is_blame, put_is_quiet, put_blames_none}
 use Rattle.dn_steps.proofs.PutLines.{puts_lines, puts_keep_members}
 use Rattle.dn_steps.proofs.Resting.{rested}
+use Rattle.dn_steps.proofs.Unputting.{KeepsFronts}
 
 module _ (w : RunView) (old new : PartsView) (from to : Member) (payload : List ℕ) (lines : List Outcome) (tied : IsTied w old)
     (h : Puts old (injecting from) (to ∷ []) payload new lines) where
@@ -61,3 +63,10 @@ module _ (w : RunView) (old new : PartsView) (from to : Member) (payload : List 
   }) where
     inject_is_not : (k : ℕ) → events.Inject from to payload ≡ events.Deliver k → ⊥
     inject_is_not k e = absurd cc
+
+  pub injected_fronts : KeepsFronts w (next_run w s w.plains w.sums)
+  injected_fronts p h =
+      elim (Contains-append_cases (log w).puts so.more p (subst (λ (ps : List Put). Contains ps p) (ap (λ (l : Log). l.puts) at ∙ so.puts) h)) [
+        | inl was ↦ inl was
+        | inr more ↦ inr (λ own. let e : false ≡ true = ap (λ (q : Put). q.own) (so.each p more) ∙ own in absurd cc)
+      ]

@@ -19,10 +19,10 @@ use Rattle.dn_report.specs.declared.event.Event.TheVariants as events
 use Rattle.dn_report.specs.declared.outcome.Outcome.{Outcome}
 use Rattle.dn_report.specs.declared.outcome.Outcome.TheVariants as outcomes
 use Rattle.dn_report.specs.declared.words.IgnoredWord.TheVariants as ignored
-use Rattle.dn_world.specs.Parts.{PartsView}
-use Rattle.dn_world.specs.Words.{blame_word_of}
-use Rattle.dn_world.specs.Verdicts.{IsJudgedSo, blame_line, silent_line, verdict_lines}
-use Rattle.dn_world.specs.Verdicts.IsJudgedSo.{judged, none}
+use Rattle.dn_state.specs.Parts.{PartsView}
+use Rattle.dn_state.specs.Words.{blame_word_of}
+use Rattle.dn_state.specs.Verdicts.{IsJudgedSo, blame_line, silent_line, verdict_lines}
+use Rattle.dn_state.specs.Verdicts.IsJudgedSo.{judged, none}
 use Rattle.dn_headline.specs.Group.{clients_of}
 use Rattle.dn_headline.specs.Log.{Step, Log, nobody, with_outcomes, AreNumbered}
 use Rattle.dn_headline.specs.Run.{RunView, log}
@@ -117,7 +117,7 @@ of_verdict blamed silent o h =
       | inr a ↦ let b = Contains-from_map silent_line silent o a in (ap is_of_put (sym b.2), ap is_quiet (sym b.2))
     ]
 
-of_judge : (parts : PartsView) (r : Round) (k : ℕ) (lines : List Outcome) → IsJudgedSo parts r k lines → (o : Outcome) → Contains lines o
+pub of_judge : (parts : PartsView) (r : Round) (k : ℕ) (lines : List Outcome) → IsJudgedSo parts r k lines → (o : Outcome) → Contains lines o
     → (is_of_put o ≡ false) × (is_quiet o ≡ true)
 of_judge parts r k lines (judged trial blamed silent is verdict told) o h = of_verdict blamed silent o (subst (λ (os : List Outcome). Contains os o) told h)
 of_judge parts r k lines (none no_trial told) o h =

@@ -8,9 +8,9 @@ use Rattle.dn_client.specs.Client.{ClientView, IsClient}
 use Rattle.dn_report.specs.declared.event.Event.TheVariants as events
 use Rattle.dn_report.specs.declared.outcome.Outcome.{Outcome}
 use Rattle.dn_report.specs.declared.outcome.Outcome.TheVariants as outcomes
-use Rattle.dn_world.specs.Parts.{PartsView}
-use Rattle.dn_world.specs.Members.{client_at}
-use Rattle.dn_world.specs.Calling.{Leaves, left_in, without_client}
+use Rattle.dn_state.specs.Parts.{PartsView}
+use Rattle.dn_state.specs.Members.{client_at}
+use Rattle.dn_state.specs.Calling.{Leaves, left_in, without_client}
 use Rattle.dn_headline.specs.Log.{Step, Log, Put, with_outcomes, AreNumbered}
 use Rattle.dn_headline.specs.Run.{RunView, log}
 use Rattle.dn_headline.specs.Plains.{texts_of}

@@ -5,8 +5,8 @@ use Rattle.std.specs.List.{list_any}
 use Rattle.std.proofs.lemmas.Bool.{cases_Bool}
 use Rattle.dn_cert.proofs.Orders.{nothing}
 use Rattle.dn_report.specs.declared.event.Event.TheVariants as events
-use Rattle.dn_world.specs.Parts.{PartsView}
-use Rattle.dn_world.specs.Delivering.{without_message}
+use Rattle.dn_state.specs.Parts.{PartsView}
+use Rattle.dn_state.specs.Delivering.{without_message}
 use Rattle.dn_headline.specs.Log.{Step, Log, nobody, with_outcomes, with_removal, with_step, AreNumbered}
 use Rattle.dn_headline.specs.Run.{RunView, log}
 use Rattle.dn_headline.specs.Group.{GroupView}

@@ -11,8 +11,8 @@ use Rattle.dn_wire.specs.declared.ids.Member.TheVariants as members
 use Rattle.dn_roster.specs.Roster.{RosterView}
 use Rattle.dn_client.specs.Client.{ClientView}
 use Rattle.dn_server.specs.Server.{ServerView}
-use Rattle.dn_world.specs.Parts.{PartsView}
-use Rattle.dn_world.specs.Members.{core_in, core_at, client_at, server_at}
+use Rattle.dn_state.specs.Parts.{PartsView}
+use Rattle.dn_state.specs.Members.{core_in, core_at, client_at, server_at}
 use Rattle.dn_headline.specs.Group.{IsHonestServer, IsHonestClient, clients_of, servers_of}
 use Rattle.dn_headline.specs.Run.{RunView}
 use Rattle.dn_steps.specs.Cores.{server_of, client_of, no_server, no_client}

@@ -20,8 +20,8 @@ use Rattle.dn_client.specs.Client.{ClientView, IsClient}
 use Rattle.dn_server.specs.Server.{ServerView}
 use Rattle.dn_report.specs.declared.event.Event.TheVariants as events
 use Rattle.dn_audit.specs.Group.{GroupView as MarkedGroup, is_corrupt as is_marked}
-use Rattle.dn_world.specs.Parts.{PartsView, IsWhole, HaveClients, HaveServers}
-use Rattle.dn_world.specs.Members.{client_at}
+use Rattle.dn_state.specs.Parts.{PartsView, IsWhole, HaveClients, HaveServers}
+use Rattle.dn_state.specs.Members.{client_at}
 use Rattle.dn_headline.specs.Group.{IsHonestServer, IsHonestClient}
 use Rattle.dn_headline.specs.Log.{Step, Message, Put, message_of, is_early_or_none, IsOrderly}
 use Rattle.dn_headline.specs.Run.{RunView, PlainMade, log}
@@ -34,6 +34,7 @@ use Rattle.dn_links.specs.Judging.{JudgeCalled}
 use Rattle.dn_links.specs.Call.{IsCall}
 use Rattle.dn_steps.specs.Cores.{server_of, client_of, facts_in, no_client}
 use Rattle.dn_steps.specs.Fitting.{FitsLog}
+use Rattle.dn_steps.specs.Openings.{KeepsOpenings}
 use Rattle.dn_steps.specs.Tied.{IsTied}
 use Rattle.dn_steps.proofs.Members.{core_set_same, core_set_other, set_is, set_other, client_is_honest, client_core_is, client_within, client_there}
 use Rattle.dn_steps.proofs.Runs.{next_run, run_grows, AreQuiet}
@@ -223,6 +224,7 @@ module _ (w : RunView) (old new : PartsView) (s : Step) (plains : List PlainMade
       keys = λ j h. ap (λ (z : ServerView). z.key) (same_server j);
       straight = λ j h. ap (λ (z : ServerView). z.bent) (same_server j);
       clients = λ k h. refl;
+      openings = λ j h. subst (KeepsOpenings w.group.roster) (sym (same_server j)) (tied.servers j h).openings;
       plains_of = made_by_honest;
       sums_of = tied.sums;
     })

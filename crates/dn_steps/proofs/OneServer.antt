@@ -14,8 +14,8 @@ use Rattle.dn_client.specs.Client.{ClientView}
 use Rattle.dn_server.specs.Server.{ServerView}
 use Rattle.dn_report.specs.declared.outcome.Outcome.{Outcome}
 use Rattle.dn_audit.specs.Group.{GroupView as MarkedGroup, is_corrupt as is_marked}
-use Rattle.dn_world.specs.Parts.{PartsView, IsWhole, HaveClients, HaveServers}
-use Rattle.dn_world.specs.Members.{server_at}
+use Rattle.dn_state.specs.Parts.{PartsView, IsWhole, HaveClients, HaveServers}
+use Rattle.dn_state.specs.Members.{server_at}
 use Rattle.dn_headline.specs.Group.{IsHonestServer, IsHonestClient}
 use Rattle.dn_headline.specs.Log.{Step, Message, Put}
 use Rattle.dn_headline.specs.Run.{RunView, SumMade, log}
@@ -43,7 +43,7 @@ pub record SameClients (old new : PartsView) : Type 0 where
   pub opens : new.payloads.roster ≡ old.payloads.roster
   pub group : new.group ≡ old.group
   pub clients : new.clients ≡ old.clients
-  pub left : new.left ≡ old.left
+  pub left : length new.left ≡ length old.left
 
 -- a core that isn't called, where the lines tell nothing of its server
 pub rests_so : (v : RunView) (k : ServerId) (c : ServerView) (lines : List Outcome) → TellNothingOf k lines → StaysInRound v k c c lines
@@ -156,6 +156,7 @@ module _ (w : RunView) (old new : PartsView) (history : List Step) (sums : List 
           not_ahead = λ x r t m phase carries now. absurd (serves.to_server k m other carries.to now);
           key = refl;
           bent = refl;
+          openings = was.openings;
         }))
 
     call_of : (k : ServerId) → IsHonestServer w.group k → ServerCall w v (facts_in new) lines serves.moved k (fresh_of k) (server_of old k) (server_of new k)
@@ -257,7 +258,7 @@ module _ (w : RunView) (old new : PartsView) (history : List Step) (sums : List 
       servers_long =
           ap (λ (cs : List (Option ServerView)). length cs) serves.servers ∙ length-set old.servers j.0 (Some d) ∙ tied.whole.servers_long
           ∙ ap (λ (z : RosterView). length z.servers) (sym serves.rest.roster);
-      left_long = ap (λ (ls : List Bool). length ls) serves.rest.left ∙ tied.whole.left_long ∙ ap (λ (z : RosterView). length z.clients) (sym serves.rest.roster);
+      left_long = serves.rest.left ∙ tied.whole.left_long ∙ ap (λ (z : RosterView). length z.clients) (sym serves.rest.roster);
       clients = subst (λ (z : MarkedGroup). HaveClients z new.clients) (sym serves.rest.group) (subst (HaveClients old.group) (sym serves.rest.clients) tied.whole.clients);
       servers = subst (λ (z : MarkedGroup). HaveServers z new.servers) (sym serves.rest.group) (subst (HaveServers old.group) (sym serves.servers) have_set);
       carried = carried w.group (log v) new serves.fits;
@@ -279,6 +280,7 @@ module _ (w : RunView) (old new : PartsView) (history : List Step) (sums : List 
       keys = λ k h. (call_of k h).key;
       straight = λ k h. (call_of k h).bent;
       clients = λ i h. sym (same_client i);
+      openings = λ k h. (call_of k h).openings;
       plains_of = tied.plains;
       sums_of = made_by_honest;
     })

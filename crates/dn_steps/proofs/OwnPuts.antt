@@ -1,6 +1,7 @@
 -- What an honest client puts by its own core, and what stands in front of it.
-use Rattle.std.proofs.Common.{◌≡◌, ℕ, ◌≤◌, List, [], ◌∷◌, ◌++◌, length, sym, ap, subst, ◌∙◌, true, Bool}
-use Rattle.std.specs.Prelude.{Contains, slice_get, Some}
+use Rattle.std.proofs.Common.{◌≡◌, ℕ, ◌≤◌, List, [], ◌∷◌, ◌++◌, length, sym, ap, subst, ◌∙◌, inl, inr, true, Bool}
+use Rattle.std.specs.Prelude.{Contains, ◌⊎◌, slice_get, Some}
+use Rattle.std.proofs.lemmas.List.Elements.{Contains-append_cases}
 use Rattle.dn_wire.specs.declared.ids.ClientId.{ClientId}
 use Rattle.dn_wire.specs.declared.ids.SlotId.{SlotId}
 use Rattle.dn_wire.specs.declared.ids.Member.{Member}
@@ -20,7 +21,8 @@ use Rattle.dn_payloads.specs.declared.content.Content.{Content}
 use Rattle.dn_payloads.specs.declared.content.Content.TheVariants as contents
 use Rattle.dn_payloads.specs.Payloads.{IsContent}
 use Rattle.dn_report.specs.declared.outcome.Outcome.{Outcome}
-use Rattle.dn_world.specs.Parts.{PartsView}
+use Rattle.dn_state.specs.Parts.{PartsView}
+use Rattle.dn_headline.specs.Group.{IsKeyOf}
 use Rattle.dn_headline.specs.Log.{Log, Put, with_outcomes}
 use Rattle.dn_headline.specs.Run.{RunView, log}
 use Rattle.dn_headline.specs.Certified.{IsCertificateOf}
@@ -30,6 +32,7 @@ use Rattle.dn_steps.proofs.Sending.{put_of}
 use Rattle.dn_steps.proofs.Following.{IsOther, certificate_of_content}
 use Rattle.dn_steps.proofs.Putting.{PutsSo, GoesOrIsOther}
 use Rattle.dn_steps.proofs.Fronts.{front_of_plain, front_of_submission}
+use Rattle.dn_steps.proofs.Unputting.{KeepsFronts}
 
 -- a statement with its signer, that stands in front of what the member puts
 pub record StandsAlone (w v : RunView) (by : SignerId) (s : Statement) : Type 0 where
@@ -67,6 +70,38 @@ module _ (w v : RunView) (i : ClientId) (to : List Member) (bytes : List ℕ) (s
         let same = ap (λ (q : Put). q.bytes) (newly_put now.at now.put now.new now.there) in
         unsealed_once v.group.roster e who by t s (front_of_submission v.group.roster now.put.bytes who t c e fits (sym same ∙ is) now.front) unseals;
   }
+
+  -- ---- in front of each stands a statement by a key of the client's
+
+  put_cases : (p : Put) → Contains (log v).puts p → Contains (log w).puts p ⊎ (put_of true (members.Client i) bytes ≡ p)
+  put_cases p h =
+      elim (Contains-append_cases (log w).puts so.more p
+      (subst (λ (ps : List Put). Contains ps p) (ap (λ (l : Log). l.puts) at ∙ so.puts ∙ ap (λ (ps : List Put). ps ++ so.more) puts) h)) [
+        | inl was ↦ inl was
+        | inr new ↦ inr (so.each p new)
+      ]
+
+  by_own_key : (p : Put) → put_of true (members.Client i) bytes ≡ p → (by who : SignerId) → IsKeyOf v.group by (members.Client i) → who ≡ by → IsKeyOf v.group who p.by
+  by_own_key p is by who key same =
+      subst (λ (z : SignerId). IsKeyOf v.group z p.by) (sym same) (subst (IsKeyOf v.group by) (ap (λ (q : Put). q.by) is) key)
+
+  pub plain_fronts : (e : List ℕ) → bytes ≡ payload_bytes (payloads.Plain e) → (by : SignerId) (s : Statement) → Unseals v.group.roster e by s
+      → IsKeyOf v.group by (members.Client i) → KeepsFronts w v
+  plain_fronts e spelled by s unseals key p h = elim (put_cases p h) [
+    | inl was ↦ inl was
+    | inr is ↦ inr (λ own who t front.
+        by_own_key p is by who key
+        (unsealed_once v.group.roster e who by t s (front_of_plain v.group.roster p.bytes who t e (sym (ap (λ (q : Put). q.bytes) is) ∙ spelled) front) unseals).0)
+  ]
+
+  pub submission_fronts : (c : List Bool) (e : List ℕ) → IsPayload (payloads.Submission c e) → bytes ≡ payload_bytes (payloads.Submission c e) → (by : SignerId) (s : Statement)
+      → Unseals v.group.roster e by s → IsKeyOf v.group by (members.Client i) → KeepsFronts w v
+  submission_fronts c e fits spelled by s unseals key p h = elim (put_cases p h) [
+    | inl was ↦ inl was
+    | inr is ↦ inr (λ own who t front.
+        by_own_key p is by who key
+        (unsealed_once v.group.roster e who by t s (front_of_submission v.group.roster p.bytes who t c e fits (sym (ap (λ (q : Put). q.bytes) is) ∙ spelled) front) unseals).0)
+  ]
 
 -- a client's key isn't a slot's
 pub no_slot : (i : ClientId) (slot : SlotId) → Slot slot ≡ Client i → ⊥

@@ -8,11 +8,11 @@ use Rattle.dn_report.specs.declared.outcome.Outcome.{Outcome}
 use Rattle.dn_report.specs.declared.outcome.Outcome.TheVariants as outcomes
 use Rattle.dn_payloads.specs.Payloads.{PayloadsView, IsNumberedBy}
 use Rattle.dn_flight.specs.Flight.{FlightView}
-use Rattle.dn_world.specs.declared.putting.Sender.{Sender}
-use Rattle.dn_world.specs.Parts.{PartsView}
-use Rattle.dn_world.specs.Putting.{Puts, Sends, SendsEach, post_lines}
-use Rattle.dn_world.specs.Putting.Sends.{sent, full}
-use Rattle.dn_world.specs.Putting.SendsEach.{to_none, to_next}
+use Rattle.dn_state.specs.declared.putting.Sender.{Sender}
+use Rattle.dn_state.specs.Parts.{PartsView}
+use Rattle.dn_state.specs.Putting.{Puts, Sends, SendsEach, post_lines}
+use Rattle.dn_state.specs.Putting.Sends.{sent, full}
+use Rattle.dn_state.specs.Putting.SendsEach.{to_none, to_next}
 use Rattle.dn_steps.proofs.Places.{only}
 use Rattle.dn_steps.proofs.Runs.{is_of_put}
 use Rattle.dn_steps.proofs.Resting.{SameMembers}

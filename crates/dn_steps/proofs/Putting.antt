@@ -22,9 +22,9 @@ use Rattle.dn_payloads.specs.declared.content.Content.{Content}
 use Rattle.dn_payloads.specs.declared.content.Content.TheVariants as contents
 use Rattle.dn_payloads.specs.declared.payloads.Numbered.{Numbered}
 use Rattle.dn_payloads.specs.Payloads.{PayloadView, PayloadsView, IsContent, IsNumberedBy}
-use Rattle.dn_world.specs.declared.putting.Sender.{Sender}
-use Rattle.dn_world.specs.Parts.{PartsView}
-use Rattle.dn_world.specs.Putting.{Puts, server_said, by_server}
+use Rattle.dn_state.specs.declared.putting.Sender.{Sender}
+use Rattle.dn_state.specs.Parts.{PartsView}
+use Rattle.dn_state.specs.Putting.{Puts, server_said, by_server}
 use Rattle.dn_headline.specs.Group.{GroupView, clients_of}
 use Rattle.dn_headline.specs.Log.{Log, Message, Put, message_of, with_outcome, with_outcomes, AreNumbered}
 use Rattle.dn_headline.specs.Spoken.{IsPayloadOf}
@@ -60,7 +60,7 @@ heard_still roster log new puts delivered said h = record { verified = h.verifie
 
 -- ---- what a server says in a plain payload
 
-plain_opens : (roster : RosterView) (bytes : List ℕ) (said : SaidView) (p : Payload) → IsPayload p → bytes ≡ payload_bytes p → IsOpened roster p (opened.Plain said)
+pub plain_opens : (roster : RosterView) (bytes : List ℕ) (said : SaidView) (p : Payload) → IsPayload p → bytes ≡ payload_bytes p → IsOpened roster p (opened.Plain said)
     → IsSaid said × IsUnder roster said × IsPayloadOf bytes (payloads.Plain said.bytes)
 plain_opens roster bytes said (payloads.Plain envelope) fits is o = (
   o.0,

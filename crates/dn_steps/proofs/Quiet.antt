@@ -14,7 +14,7 @@ use Rattle.dn_client.specs.Client.{ClientView}
 use Rattle.dn_server.specs.Server.{ServerView}
 use Rattle.dn_report.specs.declared.event.Event.TheVariants as events
 use Rattle.dn_report.specs.declared.outcome.Outcome.TheVariants as outcomes
-use Rattle.dn_world.specs.Parts.{PartsView}
+use Rattle.dn_state.specs.Parts.{PartsView}
 use Rattle.dn_headline.specs.Group.{IsHonestServer, IsHonestClient}
 use Rattle.dn_headline.specs.Log.{Step, Message, Put, message_of, is_early_or_none, IsOrderly}
 use Rattle.dn_headline.specs.Run.{RunView, PlainMade, SumMade, log}

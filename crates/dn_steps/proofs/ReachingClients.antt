@@ -24,16 +24,16 @@ use Rattle.dn_report.specs.declared.words.IgnoredWord.{IgnoredWord}
 use Rattle.dn_report.specs.declared.words.IgnoredWord.TheVariants as ignored
 use Rattle.dn_flight.specs.declared.msg.Msg.{Msg}
 use Rattle.dn_flight.specs.Flight.{with_id}
-use Rattle.dn_world.specs.declared.delivering.Reached.{Reached}
-use Rattle.dn_world.specs.declared.delivering.Reached.TheVariants as came
-use Rattle.dn_world.specs.Parts.{PartsView}
-use Rattle.dn_world.specs.Words.{hold_word_of, answer_word_of}
-use Rattle.dn_world.specs.Doing.{Tells, Then}
-use Rattle.dn_world.specs.Members.{client_at, with_client}
-use Rattle.dn_world.specs.Telling.{with_told}
-use Rattle.dn_world.specs.Calling.{IsIgnored}
-use Rattle.dn_world.specs.Delivering.{opened_at, body_of, is_receipt_for, without_message, Holds, IsReached, ComesOfReached, TellsBody, ReachesClient}
-use Rattle.dn_world.specs.Delivering.ReachesClient.{is_left, reaches, passes}
+use Rattle.dn_state.specs.declared.delivering.Reached.{Reached}
+use Rattle.dn_state.specs.declared.delivering.Reached.TheVariants as came
+use Rattle.dn_state.specs.Parts.{PartsView}
+use Rattle.dn_state.specs.Words.{hold_word_of, answer_word_of}
+use Rattle.dn_state.specs.Doing.{Tells, Then}
+use Rattle.dn_state.specs.Members.{client_at, with_client}
+use Rattle.dn_state.specs.Telling.{with_told}
+use Rattle.dn_state.specs.Calling.{IsIgnored}
+use Rattle.dn_state.specs.Delivering.{opened_at, body_of, is_receipt_for, without_message, Holds, IsReached, ComesOfReached, TellsBody, ReachesClient}
+use Rattle.dn_state.specs.Delivering.ReachesClient.{is_left, reaches, passes}
 use Rattle.dn_headline.specs.Group.{IsHonestServer}
 use Rattle.dn_headline.specs.Log.{message_of, is_early_or_none}
 use Rattle.dn_headline.specs.Run.{RunView, log}

@@ -36,15 +36,15 @@ use Rattle.dn_report.specs.declared.outcome.Outcome.TheVariants as outcomes
 use Rattle.dn_flight.specs.declared.msg.Msg.{Msg}
 use Rattle.dn_flight.specs.Flight.{with_id}
 use Rattle.dn_audit.specs.Auditor.{AuditorView}
-use Rattle.dn_world.specs.Parts.{PartsView, has}
-use Rattle.dn_world.specs.Words.{ignored_word_of}
-use Rattle.dn_world.specs.Members.{server_at, with_server}
-use Rattle.dn_world.specs.Acting.{ComesOf}
-use Rattle.dn_world.specs.Telling.{TellsRound, with_told}
-use Rattle.dn_world.specs.Delivering.{content_of, opened_in, opened_at, body_of, without_message, tells_held, TellsBodyIf, IsRuled, IsHeard, IsHeardIf, ComesOfMessage, ComesOfReply, ReachesCore, ReachesServer}
-use Rattle.dn_world.specs.Delivering.ComesOfMessage.{keeps, does}
-use Rattle.dn_world.specs.Delivering.ComesOfReply.{stays, takes}
-use Rattle.dn_world.specs.Delivering.ReachesServer.{reaches, passes}
+use Rattle.dn_state.specs.Parts.{PartsView, has}
+use Rattle.dn_state.specs.Words.{ignored_word_of}
+use Rattle.dn_state.specs.Members.{server_at, with_server}
+use Rattle.dn_state.specs.Acting.{ComesOf}
+use Rattle.dn_state.specs.Telling.{TellsRound, with_told}
+use Rattle.dn_state.specs.Delivering.{content_of, opened_in, opened_at, body_of, without_message, tells_held, TellsBodyIf, IsRuled, IsHeard, IsHeardIf, ComesOfMessage, ComesOfReply, ReachesCore, ReachesServer}
+use Rattle.dn_state.specs.Delivering.ComesOfMessage.{keeps, does}
+use Rattle.dn_state.specs.Delivering.ComesOfReply.{stays, takes}
+use Rattle.dn_state.specs.Delivering.ReachesServer.{reaches, passes}
 use Rattle.dn_headline.specs.Group.{GroupView}
 use Rattle.dn_headline.specs.Log.{Log, message_of, is_early_or_none}
 use Rattle.dn_headline.specs.Run.{RunView, log}
@@ -52,7 +52,6 @@ use Rattle.dn_headline.specs.Spoken.{Says}
 use Rattle.dn_headline.specs.Certified.{IsCertificateOf, IsCertified}
 use Rattle.dn_steps.specs.Fitting.{FitsLog}
 use Rattle.dn_steps.specs.Tied.{IsTied}
-use Rattle.dn_steps.specs.Serving.{IsUnsaid}
 use Rattle.dn_steps.specs.ServerCall.{TellNothingOf}
 use Rattle.dn_steps.proofs.OneServer.{SameClients}
 use Rattle.dn_steps.proofs.Places.{only, one_at}
@@ -65,6 +64,13 @@ use Rattle.dn_steps.proofs.ServerEvents.{ignored_tells_nothing}
 use Rattle.dn_steps.proofs.ToServers.{IsTold, HasServer, log_is, core_rests, held_so, ends_so}
 
 -- ---- payloads in which nothing is said
+
+-- nothing is said in what opens: it is a certificate, or a challenge
+abbrev pub IsUnsaid : Opened → Type 0
+IsUnsaid (opened.Certificate c) = Unit {0}
+IsUnsaid (opened.Challenge c) = Unit {0}
+IsUnsaid (opened.Submission cipher said) = ⊥
+IsUnsaid (opened.Plain said) = ⊥
 
 unsaid_opens : (roster : RosterView) (bytes : List ℕ) (who : SignerId) (t : Statement) (x : Opened) (p : Payload) → IsUnsaid x → IsPayload p → bytes ≡ payload_bytes p
     → IsOpened roster p x → Says roster bytes who t → ⊥
@@ -81,13 +87,13 @@ unsaid_opens roster bytes who t (opened.Challenge c) (payloads.Submission x e) u
 unsaid_opens roster bytes who t (opened.Submission cipher said) (payloads.Submission x e) u fits is o says = u
 unsaid_opens roster bytes who t (opened.Plain said) (payloads.Submission x e) u fits is o says = u
 
-content_is : (content : Content) (x : Opened) → opened_in (Some content) ≡ Some x → content ≡ contents.Opened x
+pub content_is : (content : Content) (x : Opened) → opened_in (Some content) ≡ Some x → content ≡ contents.Opened x
 content_is (contents.Opened y) x e = ap contents.Opened (same_Some y x e)
 content_is contents.Form x e = absurd cc
 content_is contents.Stranger x e = absurd cc
 content_is contents.Signature x e = absurd cc
 
-reason_taken : (reason : Reason) → is_early_or_none (outcomes.Ignored (ignored_word_of reason)) ≡ false
+pub reason_taken : (reason : Reason) → is_early_or_none (outcomes.Ignored (ignored_word_of reason)) ≡ false
 reason_taken reasons.Old = refl
 reason_taken reasons.Running = refl
 reason_taken reasons.Spent = refl

@@ -28,10 +28,10 @@ use Rattle.dn_payloads.specs.declared.content.Content.TheVariants as contents
 use Rattle.dn_payloads.specs.Payloads.{PayloadView, PayloadsView, IsContent}
 use Rattle.dn_flight.specs.declared.msg.Msg.{Msg}
 use Rattle.dn_flight.specs.Flight.{FlightView, with_id, without_id, is_from, is_member as is_one}
-use Rattle.dn_world.specs.Parts.{PartsView, has}
-use Rattle.dn_world.specs.Calling.{without_from}
-use Rattle.dn_world.specs.Putting.{front_of}
-use Rattle.dn_world.specs.Delivering.{content_of, heard_in, by_client, client_said_in, IsHeard, IsHeardIf, without_message}
+use Rattle.dn_state.specs.Parts.{PartsView, has}
+use Rattle.dn_state.specs.Calling.{without_from}
+use Rattle.dn_state.specs.Putting.{front_of}
+use Rattle.dn_state.specs.Delivering.{content_of, heard_in, by_client, client_said_in, IsHeard, IsHeardIf, without_message}
 use Rattle.dn_headline.specs.Group.{GroupView, is_member}
 use Rattle.dn_headline.specs.Log.{Log, Message, Put, message_of, without}
 use Rattle.dn_headline.specs.Spoken.{IsPayloadOf, IsSubmission}

@@ -16,8 +16,8 @@ use Rattle.dn_payloads.specs.Payloads.{PayloadView}
 use Rattle.dn_flight.specs.declared.msg.Msg.{Msg}
 use Rattle.dn_audit.specs.Group.{GroupView as MarkedGroup, is_corrupt as is_marked}
 use Rattle.dn_roster.specs.Roster.{RosterView}
-use Rattle.dn_world.specs.Parts.{PartsView, IsWhole, HaveClients, HaveServers}
-use Rattle.dn_world.specs.Delivering.{without_message}
+use Rattle.dn_state.specs.Parts.{PartsView, IsWhole, HaveClients, HaveServers}
+use Rattle.dn_state.specs.Delivering.{without_message}
 use Rattle.dn_headline.specs.Group.{GroupView, IsHonestServer, IsHonestClient}
 use Rattle.dn_headline.specs.Log.{Step, Log, Message, Put, message_of, is_early_or_none, IsOrderly}
 use Rattle.dn_headline.specs.Run.{RunView, log}
@@ -28,6 +28,7 @@ use Rattle.dn_links.specs.Call.{IsCall}
 use Rattle.dn_links.specs.Judging.{JudgeCalled}
 use Rattle.dn_steps.specs.Cores.{server_of, client_of, facts_in}
 use Rattle.dn_steps.specs.Fitting.{FitsGroup, FitsLog}
+use Rattle.dn_steps.specs.Openings.{KeepsOpenings}
 use Rattle.dn_steps.specs.Tied.{IsTied}
 use Rattle.dn_steps.proofs.Runs.{next_run, run_grows, AreQuiet}
 use Rattle.dn_steps.proofs.Quiet.{servers_rest, rounds_rest, messages_rest, clients_rest}
@@ -127,6 +128,7 @@ module _ (w : RunView) (old new : PartsView) (s : Step) (tied : IsTied w old) wh
       keys = λ j h. ap (λ (c : ServerView). c.key) (same_server j);
       straight = λ j h. ap (λ (c : ServerView). c.bent) (same_server j);
       clients = λ i h. sym (same_client i);
+      openings = λ j h. subst (KeepsOpenings w.group.roster) (sym (same_server j)) (tied.servers j h).openings;
       plains_of = tied.plains;
       sums_of = tied.sums;
     })

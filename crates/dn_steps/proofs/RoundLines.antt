@@ -10,10 +10,10 @@ use Rattle.dn_cert.specs.Chain.{ChainView, count_at}
 use Rattle.dn_cert.proofs.Orders.{nothing, first_or_later}
 use Rattle.dn_report.specs.declared.outcome.Outcome.{Outcome}
 use Rattle.dn_report.specs.declared.outcome.Outcome.TheVariants as outcomes
-use Rattle.dn_world.specs.Parts.{PartsView}
-use Rattle.dn_world.specs.Telling.{IsRoundTold, TellsRound, listed_line, block_line, open_lines, slot_lines, output_lines_of, with_told}
-use Rattle.dn_world.specs.Telling.IsRoundTold.{thin, full}
-use Rattle.dn_world.specs.Telling.TellsRound.{tells, stays}
+use Rattle.dn_state.specs.Parts.{PartsView}
+use Rattle.dn_state.specs.Telling.{IsRoundTold, TellsRound, listed_line, block_line, open_lines, slot_lines, output_lines_of, with_told}
+use Rattle.dn_state.specs.Telling.IsRoundTold.{thin, full}
+use Rattle.dn_state.specs.Telling.TellsRound.{tells, stays}
 use Rattle.dn_headline.specs.Group.{GroupView}
 use Rattle.dn_headline.specs.Log.{Log}
 use Rattle.dn_steps.specs.Fitting.{FitsLog}

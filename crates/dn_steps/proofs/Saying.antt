@@ -8,10 +8,10 @@ use Rattle.dn_cert.proofs.Orders.{nothing, same_client}
 use Rattle.dn_client.specs.Client.{ClientView, IsClient}
 use Rattle.dn_report.specs.declared.outcome.Outcome.{Outcome}
 use Rattle.dn_report.specs.declared.event.Event.TheVariants as events
-use Rattle.dn_world.specs.Parts.{PartsView}
-use Rattle.dn_world.specs.Members.{client_at, with_client}
-use Rattle.dn_world.specs.Calling.{SaysText, with_text}
-use Rattle.dn_world.specs.Calling.SaysText.{says, rests}
+use Rattle.dn_state.specs.Parts.{PartsView}
+use Rattle.dn_state.specs.Members.{client_at, with_client}
+use Rattle.dn_state.specs.Calling.{SaysText, with_text}
+use Rattle.dn_state.specs.Calling.SaysText.{says, rests}
 use Rattle.dn_headline.specs.Group.{GroupView, IsHonestClient}
 use Rattle.dn_headline.specs.Log.{Step, Log, Put, with_outcomes, with_step}
 use Rattle.dn_headline.specs.Run.{RunView, log}

@@ -9,9 +9,9 @@ use Rattle.dn_report.specs.declared.outcome.Outcome.{Outcome}
 use Rattle.dn_report.specs.declared.outcome.Outcome.TheVariants as outcomes
 use Rattle.dn_flight.specs.declared.msg.Msg.{Msg}
 use Rattle.dn_flight.specs.Flight.{FlightView}
-use Rattle.dn_world.specs.Putting.{Sends, SendsEach}
-use Rattle.dn_world.specs.Putting.Sends.{sent, full}
-use Rattle.dn_world.specs.Putting.SendsEach.{to_none, to_next}
+use Rattle.dn_state.specs.Putting.{Sends, SendsEach}
+use Rattle.dn_state.specs.Putting.Sends.{sent, full}
+use Rattle.dn_state.specs.Putting.SendsEach.{to_none, to_next}
 use Rattle.dn_cert.proofs.Orders.{here, nothing, first_or_later}
 use Rattle.dn_cert.proofs.ListLemmas.{Contains-from_map}
 use Rattle.dn_headline.specs.Log.{Log, Message, Put, nobody, message_of, actor_after, with_outcome, with_outcomes, message_to, IsNext, AreNumbered}

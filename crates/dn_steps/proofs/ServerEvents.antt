@@ -22,13 +22,13 @@ use Rattle.dn_report.specs.declared.event.Event.TheVariants as events
 use Rattle.dn_report.specs.declared.outcome.Outcome.{Outcome}
 use Rattle.dn_report.specs.declared.outcome.Outcome.TheVariants as outcomes
 use Rattle.dn_report.specs.declared.words.IgnoredWord.{IgnoredWord}
-use Rattle.dn_world.specs.declared.calling.Call.TheVariants as called
-use Rattle.dn_world.specs.Parts.{PartsView}
-use Rattle.dn_world.specs.Words.{ignored_word_of}
-use Rattle.dn_world.specs.Members.{server_at}
-use Rattle.dn_world.specs.Acting.{ComesOf}
-use Rattle.dn_world.specs.Calling.{CallsServer, IsCalled, IsAnswerTo}
-use Rattle.dn_world.specs.Calling.CallsServer.{calls, rests}
+use Rattle.dn_state.specs.declared.calling.Call.TheVariants as called
+use Rattle.dn_state.specs.Parts.{PartsView}
+use Rattle.dn_state.specs.Words.{ignored_word_of}
+use Rattle.dn_state.specs.Members.{server_at}
+use Rattle.dn_state.specs.Acting.{ComesOf}
+use Rattle.dn_state.specs.Calling.{CallsServer, IsCalled, IsAnswerTo}
+use Rattle.dn_state.specs.Calling.CallsServer.{calls, rests}
 use Rattle.dn_headline.specs.Group.{IsHonestClient}
 use Rattle.dn_headline.specs.Run.{RunView}
 use Rattle.dn_headline.specs.Plains.{text_in}

@@ -15,9 +15,9 @@ use Rattle.dn_exchange.specs.Opening.{fresh_run}
 use Rattle.dn_report.specs.declared.event.Event.{Event}
 use Rattle.dn_report.specs.declared.outcome.Outcome.{Outcome}
 use Rattle.dn_report.specs.declared.outcome.Outcome.TheVariants as outcomes
-use Rattle.dn_world.specs.Parts.{PartsView}
-use Rattle.dn_world.specs.Members.{server_at, with_server}
-use Rattle.dn_world.specs.Calling.{KeepsRules}
+use Rattle.dn_state.specs.Parts.{PartsView}
+use Rattle.dn_state.specs.Members.{server_at, with_server}
+use Rattle.dn_state.specs.Calling.{KeepsRules}
 use Rattle.dn_headline.specs.Group.{IsHonestClient, IsHonestServer}
 use Rattle.dn_headline.specs.Log.{Step, Log, Put, actor_of, is_own, with_outcomes, AreNumbered}
 use Rattle.dn_headline.specs.Run.{RunView, log}
@@ -130,6 +130,7 @@ module _ (w : RunView) (old : PartsView) (e : Event) (lines : List Outcome) (tie
         not_ahead = λ x r t m phase carries now. absurd (calm.delivers now.0 now.1);
         key = refl;
         bent = refl;
+        openings = record { evidence = tied_core.openings.evidence; opened = tied_core.openings.opened };
       }))
 
   -- ---- the round is given up
@@ -185,6 +186,7 @@ module _ (w : RunView) (old : PartsView) (e : Event) (lines : List Outcome) (tie
         not_ahead = λ x r t m phase carries now. absurd (calm.delivers now.0 now.1);
         key = refl;
         bent = refl;
+        openings = record { evidence = tied_core.openings.evidence; opened = tied_core.openings.opened };
       }))
 
   -- ---- a round is opened
@@ -242,6 +244,7 @@ module _ (w : RunView) (old : PartsView) (e : Event) (lines : List Outcome) (tie
         not_ahead = λ x q t m phase carries now. absurd (calm.delivers now.0 now.1);
         key = refl;
         bent = refl;
+        openings = record { evidence = tied_core.openings.evidence; opened = tied_core.openings.opened };
       }))
     where
       opened_by : (k n : ServerId) (q p a b : Round) → outcomes.Opened n a b ≡ outcomes.Opened k q p → k.0 ≡ n.0

@@ -19,11 +19,12 @@ use Rattle.dn_client.specs.Submitting.{IsSubmitted, given_of}
 use Rattle.dn_client.proofs.Envelopes.{made_unseals}
 use Rattle.dn_report.specs.declared.event.Event.TheVariants as events
 use Rattle.dn_report.specs.declared.outcome.Outcome.{Outcome}
-use Rattle.dn_world.specs.Parts.{PartsView}
-use Rattle.dn_world.specs.Doing.{own}
-use Rattle.dn_world.specs.Members.{client_at, with_client}
-use Rattle.dn_world.specs.Calling.{Submits, SubmitsTo}
-use Rattle.dn_world.specs.Calling.Submits.{submits as submits_so, refuses, rests}
+use Rattle.dn_report.specs.declared.outcome.Outcome.TheVariants as outcomes
+use Rattle.dn_state.specs.Parts.{PartsView}
+use Rattle.dn_state.specs.Doing.{own}
+use Rattle.dn_state.specs.Members.{client_at, with_client}
+use Rattle.dn_state.specs.Calling.{Submits, SubmitsTo}
+use Rattle.dn_state.specs.Calling.Submits.{submits as submits_so, refuses, rests}
 use Rattle.dn_headline.specs.Log.{Step, Log, with_outcomes}
 use Rattle.dn_headline.specs.Run.{RunView, PlainMade, log}
 use Rattle.dn_headline.specs.Plains.{texts_of}
@@ -41,8 +42,9 @@ use Rattle.dn_steps.proofs.Quiet.{texts_rest}
 use Rattle.dn_steps.proofs.Lengths.{made_fits}
 use Rattle.dn_steps.proofs.Saying.{client_fits_too}
 use Rattle.dn_steps.proofs.Idle.{IsCalm, no_lines, one_ignored, other_step, idle_is_tied}
-use Rattle.dn_steps.proofs.OwnPuts.{StandsAlone, put_by_client, was_put, submission_stands, no_slot}
+use Rattle.dn_steps.proofs.OwnPuts.{StandsAlone, put_by_client, was_put, submission_stands, submission_fronts, no_slot}
 use Rattle.dn_steps.proofs.OneClient.{turned}
+use Rattle.dn_steps.proofs.Unputting.{KeepsFronts, none_unput, one_unput, unput_keeps}
 
 pub submitting_is_calm : (i : ClientId) (j : ServerId) (r : Round) → IsCalm (events.Submit i j r)
 submitting_is_calm i j r = record { removes = λ l lines. refl; delivers = λ id e. absurd cc; judges = λ q k e. absurd cc }
@@ -211,6 +213,14 @@ module _ (w : RunView) (old new : PartsView) (i : ClientId) (j : ServerId) (r : 
           ];
         })
 
+    fronts_with : KeepsFronts w v
+    fronts_with =
+        submission_fronts w v i (members.Server j ∷ []) bytes (log w) new lines so refl at to.submission.cipher to.submission.envelope fits refl (Client i)
+        (submission_of d.who g.made) unseals refl
+
+  pub submitted_fronts : (plains : List PlainMade) → KeepsFronts w (next_run w s plains w.sums)
+  submitted_fronts plains = fronts_with gives.0 gives.1
+
   pub submitted_is_tied : (plains : List PlainMade) × IsTied (next_run w s plains w.sums) new
   submitted_is_tied = (gives.0, submitted_with gives.0 gives.1)
 
@@ -228,3 +238,10 @@ submit_is_tied w old new i j r lines tied (rests none becomes) = (
   subst (λ (os : List Outcome). IsTied (next_run w (record { event = events.Submit i j r; outcomes = os }) w.plains w.sums) new) (sym becomes.1)
       (idle_is_tied w old (events.Submit i j r) [] tied (submitting_is_calm i j r) no_lines (λ k h. refl) new becomes.0),
 )
+
+pub submit_fronts : (w : RunView) (old new : PartsView) (i : ClientId) (j : ServerId) (r : Round) (lines : List Outcome) → IsTied w old → Submits i j r old new lines
+    → (plains : List PlainMade) → KeepsFronts w (next_run w (record { event = events.Submit i j r; outcomes = lines }) plains w.sums)
+submit_fronts w old new i j r lines tied (submits_so c at_c to) plains = submitted_fronts w old new i j r lines tied c at_c to plains
+submit_fronts w old new i j r lines tied (refuses c at_c nothing) plains =
+    unput_keeps w (events.Submit i j r) lines plains w.sums (one_unput (outcomes.Ignored nothing.told.why) lines nothing.told.tells.1 refl)
+submit_fronts w old new i j r lines tied (rests none becomes) plains = unput_keeps w (events.Submit i j r) lines plains w.sums (none_unput lines becomes.1)

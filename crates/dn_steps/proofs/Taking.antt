@@ -24,10 +24,10 @@ use Rattle.dn_payloads.specs.Payloads.{PayloadView, IsContent}
 use Rattle.dn_flight.specs.declared.msg.Msg.{Msg}
 use Rattle.dn_flight.specs.Flight.{with_id}
 use Rattle.dn_audit.specs.Group.{is_corrupt as is_marked}
-use Rattle.dn_world.specs.Parts.{PartsView, has}
-use Rattle.dn_world.specs.Words.{unopened_word_of}
-use Rattle.dn_world.specs.Doing.{Tells}
-use Rattle.dn_world.specs.Delivering.{IsHeard, IsHeardIf, IsTaken, content_of, unopened_at, without_message}
+use Rattle.dn_state.specs.Parts.{PartsView, has}
+use Rattle.dn_state.specs.Words.{unopened_word_of}
+use Rattle.dn_state.specs.Doing.{Tells}
+use Rattle.dn_state.specs.Delivering.{IsHeard, IsHeardIf, IsTaken, content_of, unopened_at, without_message}
 use Rattle.dn_headline.specs.Group.{IsHonestServer}
 use Rattle.dn_headline.specs.Log.{Step, Log, message_of, is_early_or_none, with_outcomes, with_removal, AreNumbered}
 use Rattle.dn_headline.specs.Run.{RunView, log}

@@ -33,11 +33,11 @@ use Rattle.dn_payloads.specs.declared.content.Content.TheVariants as contents
 use Rattle.dn_payloads.specs.Payloads.{PayloadView, IsContent}
 use Rattle.dn_flight.specs.declared.msg.Msg.{Msg}
 use Rattle.dn_flight.specs.Flight.{with_id}
-use Rattle.dn_world.specs.Parts.{PartsView}
-use Rattle.dn_world.specs.Doing.{own}
-use Rattle.dn_world.specs.Members.{client_at, with_client, all_servers}
-use Rattle.dn_world.specs.Calling.{PutsToServers}
-use Rattle.dn_world.specs.Delivering.{content_of, opened_in, opened_at, without_message}
+use Rattle.dn_state.specs.Parts.{PartsView}
+use Rattle.dn_state.specs.Doing.{own}
+use Rattle.dn_state.specs.Members.{client_at, with_client, all_servers}
+use Rattle.dn_state.specs.Calling.{PutsToServers}
+use Rattle.dn_state.specs.Delivering.{content_of, opened_in, opened_at, without_message}
 use Rattle.dn_headline.specs.Group.{IsHonestServer}
 use Rattle.dn_headline.specs.Log.{Step, Log, Message, Put, message_of, is_early_or_none, with_outcomes, with_removal, AreNumbered, IsOrderly}
 use Rattle.dn_headline.specs.Run.{RunView, log}
@@ -61,9 +61,10 @@ use Rattle.dn_steps.proofs.Quiet.{texts_rest}
 use Rattle.dn_steps.proofs.Resting.{none_put}
 use Rattle.dn_steps.proofs.Saying.{client_fits_too}
 use Rattle.dn_steps.proofs.Idle.{other_step}
-use Rattle.dn_steps.proofs.OwnPuts.{StandsAlone, put_by_client, plain_stands, plain_goes, no_slot}
+use Rattle.dn_steps.proofs.OwnPuts.{StandsAlone, put_by_client, plain_stands, plain_fronts, plain_goes, no_slot}
 use Rattle.dn_steps.proofs.Taking.{IsPlain, delivering, taken_log, receiver, in_flight, payload, same_deliver}
 use Rattle.dn_steps.proofs.OneClient.{SameServers, turned}
+use Rattle.dn_steps.proofs.Unputting.{KeepsFronts}
 
 -- ---- what opens is what the payload has
 
@@ -246,3 +247,26 @@ module _ (w : RunView) (old : PartsView) (id : ℕ) (m : Msg) (tied : IsTied w o
         put_accused = λ slot x owns now. absurd (no_slot i slot (stands.alone (Slot slot) x now).0);
         judge = judge lines t b;
       })
+
+  pub rebuttal_fronts : (c d : ClientView) (challenge : Challenge) (envelope : List ℕ) (new : PartsView) (lines : List Outcome) → client_at old i ≡ Some c
+      → IsRebutted c challenge envelope d → PutsToServers i envelope (with_client gone i d) new lines → KeepsFronts w (next_run w (delivering id lines) w.plains w.sums)
+  rebuttal_fronts c d challenge envelope new lines at_c rebutted put =
+      let mid = with_client gone i d in
+      let v = next_run w (delivering id lines) w.plains w.sums in
+      let bytes = payload_bytes (payloads.Plain envelope) in
+      let to_all = all_servers mid in
+      let h = client_is_honest w old tied i c at_c in
+      let link = subst (λ (z : ClientView). IsIn w.group.roster z.who × (z.who.me ≡ i) × IsClient z) (client_core_is old i c at_c)
+      ((tied.clients i h).linked.within, (tied.clients i h).linked.me, (tied.clients i h).client) in
+      let of_put : (o : Outcome) → Contains lines o → is_of_put o ≡ true = λ o there. puts_lines mid new (own (members.Client i)) to_all bytes lines put o there in
+      let t : (o : Outcome) → Contains lines o → is_early_or_none o ≡ false = λ o there. put_is_taken o (of_put o there) in
+      let b : (o : Outcome) → Contains lines o → is_blame o ≡ false = λ o there. put_blames_none o (of_put o there) in
+      let so : PutsSo w.group true (members.Client i) to_all bytes start new lines =
+      puts_so w.group start mid new (own (members.Client i)) to_all bytes lines (client_fits_too w.group start gone i d gone_fits) tied.group.opens
+      (plain_goes w.group.roster envelope to_all) put in
+      let statement = rebuttal_of c.who challenge rebutted.server rebutted.false_bit.said in
+      let unseals : Unseals w.group.roster envelope (Client i) statement =
+      subst (λ (e : List ℕ). Unseals w.group.roster e (Client i) statement) (sym rebutted.sealed)
+      (subst (λ (z : ClientId). Unseals w.group.roster (sealed_as_client c.who (length c.signed) statement) (Client z) statement) link.1
+      (sealed_unseals w.group.roster c.who.digest (Client c.who.me) c.who.key (length c.signed) statement link.0.digest link.0.key link.2.keys.0 rebutted.leaf rebutted.fits)) in
+      plain_fronts w v i to_all bytes start new lines so refl (log_is lines t b) envelope refl (Client i) statement unseals refl

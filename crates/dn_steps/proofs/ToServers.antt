@@ -24,9 +24,9 @@ use Rattle.dn_report.specs.declared.words.SpoilWord.{SpoilWord}
 use Rattle.dn_told.specs.declared.told.WindowTold.{WindowTold}
 use Rattle.dn_flight.specs.declared.msg.Msg.{Msg}
 use Rattle.dn_flight.specs.Flight.{with_id}
-use Rattle.dn_world.specs.Parts.{PartsView}
-use Rattle.dn_world.specs.Members.{server_at}
-use Rattle.dn_world.specs.Calling.{KeepsRules}
+use Rattle.dn_state.specs.Parts.{PartsView}
+use Rattle.dn_state.specs.Members.{server_at}
+use Rattle.dn_state.specs.Calling.{KeepsRules}
 use Rattle.dn_headline.specs.Group.{IsHonestServer}
 use Rattle.dn_headline.specs.Log.{Step, Log, Message, Put, message_of, is_early_or_none, with_outcomes, with_removal, AreNumbered}
 use Rattle.dn_headline.specs.Run.{RunView, log}
@@ -176,6 +176,7 @@ module _ (w : RunView) (old : PartsView) (id : ℕ) (m : Msg) (tied : IsTied w o
           not_ahead = λ x r t y phase carries now. absurd (says_nothing x t y carries.says now);
           key = refl;
           bent = refl;
+          openings = record { evidence = tied_core.openings.evidence; opened = tied_core.openings.opened };
         }))
 
     -- ---- a certificate is held
@@ -287,6 +288,7 @@ module _ (w : RunView) (old : PartsView) (id : ℕ) (m : Msg) (tied : IsTied w o
             not_ahead = λ x r t y phase carries now. absurd (says_nothing x t y carries.says now);
             key = refl;
             bent = refl;
+            openings = record { evidence = tied_core.openings.evidence; opened = tied_core.openings.opened };
           }))
 
       -- the run of its round ends
@@ -332,4 +334,5 @@ module _ (w : RunView) (old : PartsView) (id : ℕ) (m : Msg) (tied : IsTied w o
             not_ahead = λ x r t y phase carries now. absurd (says_nothing x t y carries.says now);
             key = refl;
             bent = refl;
+            openings = record { evidence = tied_core.openings.evidence; opened = tied_core.openings.opened };
           }))

@@ -9,7 +9,7 @@ use Rattle.dn_client.specs.Client.{IsClient}
 use Rattle.dn_server.specs.Server.{ServerView}
 use Rattle.dn_exchange.specs.Disciplined.{Disciplined}
 use Rattle.dn_exchange.specs.Settled.{Settled}
-use Rattle.dn_world.specs.Parts.{PartsView, IsWhole}
+use Rattle.dn_state.specs.Parts.{PartsView, IsWhole}
 use Rattle.dn_headline.specs.Group.{IsHonestClient, IsHonestServer}
 use Rattle.dn_headline.specs.Log.{Step}
 use Rattle.dn_headline.specs.Run.{RunView, PlainMade, SumMade, log}
@@ -23,6 +23,7 @@ use Rattle.dn_links.proofs.Messages.{log_stays_sound, none_ahead_after}
 use Rattle.dn_links.proofs.Calls.{calls_keep_runs}
 use Rattle.dn_steps.specs.Cores.{server_of, client_of, facts_in}
 use Rattle.dn_steps.specs.Fitting.{FitsGroup, FitsLog}
+use Rattle.dn_steps.specs.Openings.{KeepsOpenings}
 use Rattle.dn_steps.specs.Tied.{IsTied, IsServerTied, IsClientTied}
 
 module _ (w : RunView) (old new : PartsView) (history : List Step) (plains : List PlainMade) (sums : List SumMade) (tied : IsTied w old)
@@ -38,6 +39,7 @@ module _ (w : RunView) (old new : PartsView) (history : List Step) (plains : Lis
     pub servers : (j : ServerId) → IsHonestServer w.group j → call.servers.after j ≡ server_of new j
     pub keys : (j : ServerId) → IsHonestServer w.group j → (server_of new j).key ≡ (server_of old j).key
     pub straight : (j : ServerId) → IsHonestServer w.group j → (server_of new j).bent ≡ (server_of old j).bent
+    pub openings : (j : ServerId) → IsHonestServer w.group j → KeepsOpenings w.group.roster (server_of new j)
     pub clients : (i : ClientId) → IsHonestClient w.group i → call.clients.after i ≡ client_of new i
     pub plains_of : (m : PlainMade) → Contains plains m → IsHonestClient w.group m.client
     pub sums_of : (m : SumMade) → Contains sums m → IsHonestServer w.group m.server
@@ -56,6 +58,7 @@ module _ (w : RunView) (old new : PartsView) (history : List Step) (plains : Lis
           settled = λ on. subst Settled now (call.rounds.settled j h (ap (λ (c : ServerView). c.run.is_running) now ∙ on));
           none_ahead = subst (NoneAhead v j) now
               (none_ahead_after w (facts_in old) (facts_in new) history plains sums call.lines call.fresh call.grows.more call.grows.puts call.servers call.messages j h);
+          openings = remains.openings j h;
         }
 
     client_tied : (i : ClientId) → IsHonestClient w.group i → IsClientTied v i (client_of new i)

@@ -1,9 +1,10 @@
--- In a payload that doesn't open nothing is said.
-use Rattle.std.proofs.Common.{◌≡◌, ◌≢◌, ℕ, List, Result, Ok, Err, refl, sym, ap, subst, ◌∙◌, inl, inr}
+-- In a payload that doesn't open nothing is said, and nothing is submitted.
+use Rattle.std.proofs.Common.{◌≡◌, ◌≢◌, ℕ, Bool, List, Result, Ok, Err, refl, sym, ap, subst, ◌∙◌, inl, inr}
 use Rattle.std.specs.Prelude.{Option, Some, None}
 use Rattle.dn_wire.specs.declared.ids.SignerId.{SignerId}
 use Rattle.dn_record_types.specs.declared.envelope.Envelope.{Envelope}
 use Rattle.dn_record_types.specs.declared.statement.Statement.{Statement}
+use Rattle.dn_record_types.specs.declared.statement.Statement.TheVariants as kinds
 use Rattle.dn_record_types.specs.declared.fault.RecordFault.{RecordFault}
 use Rattle.dn_record_types.specs.declared.payload.Payload.{Payload}
 use Rattle.dn_record_types.specs.declared.payload.Payload.TheVariants as payloads
@@ -15,10 +16,24 @@ use Rattle.dn_seal.specs.declared.unopened.Unopened.{Unopened}
 use Rattle.dn_seal.specs.declared.unopened.Unopened.TheVariants as reasons
 use Rattle.dn_seal.specs.Signer.{envelope}
 use Rattle.dn_seal.specs.Said.{Signs, Unseals, IsUnopened}
-use Rattle.dn_cert.specs.Opening.{IsUnopenedPayload, IsClosed}
+use Rattle.dn_seal.proofs.SaidLemmas.{said_unseals, unsealed_once}
+use Rattle.dn_cert.specs.Opening.{IsUnopenedPayload, IsClosed, IsSubmission as IsOfSubmission}
 use Rattle.dn_cert.specs.declared.payload_fault.PayloadFault.{PayloadFault}
 use Rattle.dn_cert.specs.declared.payload_fault.PayloadFault.TheVariants as faults
-use Rattle.dn_headline.specs.Spoken.{Says}
+use Rattle.dn_headline.specs.Spoken.{Says, Submits, IsSubmission}
+
+submission_there : (s : Statement) → IsSubmission s → IsOfSubmission s
+submission_there (kinds.Submission r prev i d) is = tt
+submission_there (kinds.Receipt r i d t) is = absurd is
+submission_there (kinds.Inventory v) is = absurd is
+submission_there (kinds.Commit r d) is = absurd is
+submission_there (kinds.Reveal r s) is = absurd is
+submission_there (kinds.Sign b) is = absurd is
+submission_there (kinds.PadBits r k bs) is = absurd is
+submission_there (kinds.Shown r s xs) is = absurd is
+submission_there (kinds.Accusation r s k) is = absurd is
+submission_there (kinds.Rebuttal r k j seed e) is = absurd is
+submission_there (kinds.Concede r k) is = absurd is
 
 module _ (roster : RosterView) (bytes : List ℕ) (who : SignerId) (s : Statement) where
   no_envelope : (fault : RecordFault) (e : Envelope) → ◌≡◌ {A = Result Envelope RecordFault} (Err fault) (Ok e) → ⊥
@@ -64,5 +79,32 @@ module _ (roster : RosterView) (bytes : List ℕ) (who : SignerId) (s : Statemen
         | inr rest ↦ elim rest [
           | inl form ↦ no_payload form.0.0 p (sym form.0.2 ∙ read)
           | inr closed ↦ closed_says closed.0 fault says.envelope (same_payload p closed.0 (sym read ∙ closed.1)) says.unseals closed.2
+        ]
+      ]
+
+  -- ---- a submission payload
+
+  unsubmitted : (p : Payload) (fault : PayloadFault) (cipher : List Bool) (b : List ℕ) → payloads.Submission cipher b ≡ p → IsSubmission s → Unseals roster b who s
+      → IsClosed roster p fault → ⊥
+  unsubmitted p fault cipher b same is u h =
+      let closed = subst (λ (q : Payload). IsClosed roster q fault) (sym same) h in
+      elim closed [
+        | inl envelope ↦ unseals_open b envelope.0 envelope.1 u envelope.2
+        | inr other ↦
+            let o = other.0.1 in
+            let one = unsealed_once roster b other.0.0.signer who other.0.0.statement s
+            (subst (λ (e : List ℕ). Unseals roster e other.0.0.signer other.0.0.statement) o.2 (said_unseals roster other.0.0 o.0 o.1)) u in
+            other.0.2 (subst IsOfSubmission (sym one.1) (submission_there s is))
+      ]
+
+  pub unopened_submits : (cipher : List Bool) (fault : PayloadFault) → fault ≢ faults.NoMemory → IsUnopenedPayload roster bytes fault → Submits roster bytes who s cipher → ⊥
+  unopened_submits cipher fault other h submits =
+      let p : Payload = payloads.Submission cipher submits.envelope in
+      let read : payload_of bytes ≡ Ok p = ap payload_of submits.is.spelled ∙ payload_again p submits.is.fits in
+      elim h [
+        | inl memory ↦ other memory
+        | inr rest ↦ elim rest [
+          | inl form ↦ no_payload form.0.0 p (sym form.0.2 ∙ read)
+          | inr closed ↦ unsubmitted closed.0 fault cipher submits.envelope (same_payload p closed.0 (sym read ∙ closed.1)) submits.submission submits.unseals closed.2
         ]
       ]

@@ -8,8 +8,8 @@ use Rattle.dn_lms.specs.Key.{Key}
 use Rattle.dn_client.specs.Client.{ClientView}
 use Rattle.dn_exchange.specs.Opening.{fresh_run}
 use Rattle.dn_server.specs.Server.{ServerView}
-use Rattle.dn_world.specs.Parts.{PartsView}
-use Rattle.dn_world.specs.Members.{client_at, server_at}
+use Rattle.dn_state.specs.Parts.{PartsView}
+use Rattle.dn_state.specs.Members.{client_at, server_at}
 use Rattle.dn_headline.specs.Invariant.{Facts}
 use Rattle.dn_links.specs.Link.{facts_of}
 use Rattle.dn_links.specs.ClientLink.{client_facts_of}

@@ -12,7 +12,7 @@ use Rattle.dn_payloads.specs.Payloads.{PayloadView, PayloadsView, IsContent}
 use Rattle.dn_flight.specs.declared.msg.Msg.{Msg}
 use Rattle.dn_flight.specs.Flight.{FlightView}
 use Rattle.dn_audit.specs.Group.{is_corrupt as is_marked}
-use Rattle.dn_world.specs.Parts.{PartsView}
+use Rattle.dn_state.specs.Parts.{PartsView}
 use Rattle.dn_headline.specs.Group.{GroupView, clients_of, servers_of, is_corrupt}
 use Rattle.dn_headline.specs.Log.{Log, Message, Put, message_of}
 use Rattle.dn_headline.specs.Spoken.{IsPayloadOf}

@@ -2,7 +2,7 @@
 use Rattle.std.specs.Prelude.{◌≡◌, ◌++◌, ◌∷◌, [], List}
 use Rattle.dn_report.specs.declared.event.Event.{Event}
 use Rattle.dn_report.specs.declared.outcome.Outcome.{Outcome}
-use Rattle.dn_world.specs.Parts.{PartsView}
+use Rattle.dn_state.specs.Parts.{PartsView}
 use Rattle.dn_headline.specs.Run.{RunView}
 use Rattle.dn_steps.specs.Tied.{IsTied}
 

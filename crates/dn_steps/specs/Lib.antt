@@ -1,7 +1,9 @@
 pub mod Cores
 pub mod Fitting
+pub mod Openings
 pub mod Tied
-pub mod Serving
 pub mod Goes
 pub mod ServerCall
 pub mod Dealt
+pub mod Audited
+pub mod Along

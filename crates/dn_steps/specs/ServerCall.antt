@@ -25,6 +25,7 @@ use Rattle.dn_headline.specs.Invariant.{Facts, SpoilCause, Carries, HasFate, Kee
 use Rattle.dn_headline.specs.Step.{ChainFollows, IsNewlySigned}
 use Rattle.dn_links.specs.Link.{Moves, StaysInRound, IsOfRecord, RunsOrEnds}
 use Rattle.dn_links.specs.MessageLink.{LogMoves, DeliversNow}
+use Rattle.dn_steps.specs.Openings.{KeepsOpenings}
 
 -- the lines tell nothing of server k
 pub record TellNothingOf (k : ServerId) (lines : List Outcome) : Type 0 where
@@ -59,3 +60,4 @@ pub record ServerCall (w v : RunView) (g : Facts) (lines : List Outcome) (moved 
   pub not_ahead : (x : ServerId) (r : Round) (t : Statement) (m : Message) → IsPhaseOf r t → Carries v x j t m → DeliversNow (log w) (log v) moved m → r.0 ≤ d.run.r.0
   pub key : d.key ≡ c.key
   pub bent : d.bent ≡ c.bent
+  pub openings : KeepsOpenings v.group.roster d

@@ -10,7 +10,7 @@ use Rattle.dn_client.specs.Client.{ClientView, IsClient}
 use Rattle.dn_server.specs.Server.{ServerView}
 use Rattle.dn_exchange.specs.Disciplined.{Disciplined}
 use Rattle.dn_exchange.specs.Settled.{Settled}
-use Rattle.dn_world.specs.Parts.{PartsView, IsWhole}
+use Rattle.dn_state.specs.Parts.{PartsView, IsWhole}
 use Rattle.dn_headline.specs.Group.{IsHonestClient, IsHonestServer}
 use Rattle.dn_headline.specs.Log.{IsSoundLog}
 use Rattle.dn_headline.specs.Run.{RunView, PlainMade, SumMade, log}
@@ -20,9 +20,10 @@ use Rattle.dn_links.specs.ClientLink.{IsClientLinked}
 use Rattle.dn_links.specs.MessageLink.{NoneAhead}
 use Rattle.dn_steps.specs.Cores.{server_of, client_of, facts_in}
 use Rattle.dn_steps.specs.Fitting.{FitsGroup, FitsLog}
+use Rattle.dn_steps.specs.Openings.{KeepsOpenings}
 
--- An honest server's core is linked to the run, keeps to the rules, and has gone on as far as it can; and nothing that was delivered to it is
--- of a round above its last one.
+-- An honest server's core is linked to the run, keeps to the rules, and has gone on as far as it can; nothing that was delivered to it is of a
+-- round above its last one; and its openings are the group's.
 pub record IsServerTied (w : RunView) (j : ServerId) (c : ServerView) : Type 0 where
   pub linked : IsLinked w j c
   pub key : key_of w.group.roster (Server j) ≡ Some (public_key c.key)
@@ -30,6 +31,7 @@ pub record IsServerTied (w : RunView) (j : ServerId) (c : ServerView) : Type 0 w
   pub disciplined : Disciplined c
   pub settled : c.run.is_running ≡ true → Settled c
   pub none_ahead : NoneAhead w j c
+  pub openings : KeepsOpenings w.group.roster c
 
 -- an honest client's core is linked to the run, and keeps to the rules
 pub record IsClientTied (w : RunView) (i : ClientId) (c : ClientView) : Type 0 where

@@ -1,2 +1,15 @@
+pub mod AcceptanceLemmas
+pub mod ContentLemmas
+pub mod CourseLemmas
+pub mod DueLemmas
+pub mod HeaderLemmas
+pub mod JudgedLemmas
+pub mod KeyLemmas
+pub mod KnownLemmas
 pub mod OpeningLemmas
+pub mod PostLemmas
 pub mod ReportLemmas
+pub mod RoundLemmas
+pub mod StepLemmas
+pub mod TellingLemmas
+pub mod VerdictLemmas

@@ -1,7 +1,8 @@
 // What is heard of the payloads.
 
-ghost use Rattle.std.specs.Prelude.{All, OnOk};
+ghost use Rattle.std.specs.Prelude.{◌≡◌, ◌++◌, ◌∷◌, [], All, OnOk, Some};
 ghost use Rattle.dn_seal.specs.Said.{IsUnder};
+ghost use Rattle.dn_verify.specs.Payloads.{by_other, by_server, carried_in, heard_delivered, heard_put};
 ghost use Rattle.dn_verify.specs.Under.{IsContentUnder};
 
 use crate::content::Content;
@@ -12,23 +13,53 @@ use dn_seal::Said;
 use dn_wire::SignerId;
 use std::alloc::Global;
 
-fn is_server(who: SignerId) -> bool {
-    match who {
-        SignerId::Server(_) => true,
-        _ => false,
-    }
-}
-
 /// Hears a statement.
 fn hear(alloc: Global, roster: &Roster, heard: &mut Vec<Said>, said: &Said) -> Result<(), NoMemory>
     requires under { IsUnder roster.now said.now }
     requires heard { All (IsUnder roster.now) heard.old.items }
-    ensures { OnOk result (All (IsUnder roster.now) heard.new.items) }
+    ensures under { OnOk result (All (IsUnder roster.now) heard.new.items) }
+    ensures heard { OnOk result (heard.new.items ≡ heard.old.items ++ said.now ∷ []) }
 {
     let _ = roster;
     let copy = said.copy(alloc)?;
     heard.push(copy)?;
     Ok(())
+}
+
+/// Hears a statement, where a server made it.
+fn hear_server(
+    alloc: Global,
+    roster: &Roster,
+    heard: &mut Vec<Said>,
+    said: &Said,
+) -> Result<(), NoMemory>
+    requires under { IsUnder roster.now said.now }
+    requires heard { All (IsUnder roster.now) heard.old.items }
+    ensures under { OnOk result (All (IsUnder roster.now) heard.new.items) }
+    ensures heard { OnOk result (heard.new.items ≡ heard.old.items ++ by_server said.now.signer said.now) }
+{
+    match said.signer() {
+        SignerId::Server(_) => hear(alloc, roster, heard, said),
+        _ => Ok(()),
+    }
+}
+
+/// Hears a statement, where a client or a slot made it.
+fn hear_other(
+    alloc: Global,
+    roster: &Roster,
+    heard: &mut Vec<Said>,
+    said: &Said,
+) -> Result<(), NoMemory>
+    requires under { IsUnder roster.now said.now }
+    requires heard { All (IsUnder roster.now) heard.old.items }
+    ensures under { OnOk result (All (IsUnder roster.now) heard.new.items) }
+    ensures heard { OnOk result (heard.new.items ≡ heard.old.items ++ by_other said.now.signer said.now) }
+{
+    match said.signer() {
+        SignerId::Server(_) => Ok(()),
+        _ => hear(alloc, roster, heard, said),
+    }
 }
 
 /// Hears the envelope of a payload that is put, where a server signed it. What a challenge shows isn't heard by that.
@@ -40,21 +71,12 @@ pub fn hear_put(
 ) -> Result<(), NoMemory>
     requires under { IsContentUnder roster.now content.now }
     requires heard { All (IsUnder roster.now) heard.old.items }
-    ensures { OnOk result (All (IsUnder roster.now) heard.new.items) }
+    ensures under { OnOk result (All (IsUnder roster.now) heard.new.items) }
+    ensures heard { OnOk result (heard.new.items ≡ heard.old.items ++ heard_put (Some (carried_in content.now))) }
 {
     match content {
-        Content::Open(Opened::Submission { said, .. }) => {
-            if is_server(said.signer()) {
-                return hear(alloc, roster, heard, said);
-            }
-            Ok(())
-        }
-        Content::Open(Opened::Plain { said }) => {
-            if is_server(said.signer()) {
-                return hear(alloc, roster, heard, said);
-            }
-            Ok(())
-        }
+        Content::Open(Opened::Submission { said, .. }) => hear_server(alloc, roster, heard, said),
+        Content::Open(Opened::Plain { said }) => hear_server(alloc, roster, heard, said),
         _ => Ok(()),
     }
 }
@@ -68,21 +90,12 @@ pub fn hear_delivered(
 ) -> Result<(), NoMemory>
     requires under { IsContentUnder roster.now content.now }
     requires heard { All (IsUnder roster.now) heard.old.items }
-    ensures { OnOk result (All (IsUnder roster.now) heard.new.items) }
+    ensures under { OnOk result (All (IsUnder roster.now) heard.new.items) }
+    ensures heard { OnOk result (heard.new.items ≡ heard.old.items ++ heard_delivered (Some (carried_in content.now))) }
 {
     match content {
-        Content::Open(Opened::Submission { said, .. }) => {
-            if is_server(said.signer()) {
-                return Ok(());
-            }
-            hear(alloc, roster, heard, said)
-        }
-        Content::Open(Opened::Plain { said }) => {
-            if is_server(said.signer()) {
-                return Ok(());
-            }
-            hear(alloc, roster, heard, said)
-        }
+        Content::Open(Opened::Submission { said, .. }) => hear_other(alloc, roster, heard, said),
+        Content::Open(Opened::Plain { said }) => hear_other(alloc, roster, heard, said),
         _ => Ok(()),
     }
 }

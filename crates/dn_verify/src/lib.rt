@@ -5,21 +5,31 @@
 #![tactic(auto)]
 
 mod content;
+mod course;
+mod due;
 mod events;
 mod fold;
 mod header;
 mod hearing;
+mod honesty;
 mod judging;
+mod key_of;
 mod mail;
+mod marks;
 mod opening;
 mod outcomes;
+mod puts;
 mod receipts;
 mod report_judging;
 mod report_lines;
 mod round_lines;
 mod scene;
+mod sizes;
 mod stop;
+mod telling;
+mod told;
 mod verifying;
+mod words;
 
 pub use verifying::verify_report;
 

@@ -1,3 +1,6 @@
+ghost use Rattle.std.specs.Prelude.{◌≡◌};
+ghost use Rattle.dn_verify.specs.declared.stop.Stop.TheVariants.{NoMemory as Unjudged};
+
 use dn_memory::NoMemory;
 use std::alloc::{AllocError, AllocFailed};
 
@@ -10,24 +13,32 @@ pub enum Stop {
 }
 
 impl From<NoMemory> for Stop {
+    ghost from_gives = { λ _ e. e ≡ Unjudged };
+
     fn from(_: NoMemory) -> Self {
         Stop::NoMemory
     }
 }
 
 impl From<AllocError> for Stop {
+    ghost from_gives = { λ _ e. e ≡ Unjudged };
+
     fn from(_: AllocError) -> Self {
         Stop::NoMemory
     }
 }
 
 impl<T: Drop> From<AllocFailed<T>> for Stop {
+    ghost from_gives = { λ _ e. e ≡ Unjudged };
+
     fn from(_: AllocFailed<T>) -> Self {
         Stop::NoMemory
     }
 }
 
 /// The line at this place is none of the form.
-pub fn misplaced(at: usize) -> Stop {
+pub fn misplaced(at: usize) -> Stop
+    ensures { result ≡ Stop.Broken at 1 }
+{
     Stop::Broken { at, rule: 1 }
 }

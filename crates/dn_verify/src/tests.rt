@@ -57,7 +57,7 @@ fn good_reports_are_accepted(rt: HostRuntime) -> Result<(), Fail> {
 }
 
 /// Lines of which one breaks a rule, its number behind the header, and the rule.
-const BROKEN: [(&str, u64, u32); 18] = [
+const BROKEN: [(&str, u64, u32); 20] = [
     ("", 1, 1),
     ("end\n", 1, 1),
     ("audit yes yes yes\n", 2, 1),
@@ -79,6 +79,8 @@ const BROKEN: [(&str, u64, u32); 18] = [
         6,
     ),
     ("@ judge 1 0\naudit yes yes yes\nend\n", 2, 6),
+    ("@ judge 1 0\nout 1 80\naudit yes yes yes\nend\n", 2, 5),
+    ("@ judge 1 0\nunopened form\naudit yes yes yes\nend\n", 2, 2),
     ("@ open s0 1\npost 0 s0 00\naudit yes yes yes\nend\n", 2, 7),
 ];
 

@@ -1,11 +1,3 @@
-pub mod Lengths
-pub mod CallLemmas
-pub mod DeliverLemmas
-pub mod BeginLemmas
-pub mod AnswerLemmas
-pub mod CoreLemmas
-pub mod PuttingLemmas
-pub mod Sounds
-pub mod TellingLemmas
-pub mod VerdictLemmas
-pub mod WholeLemmas
+pub mod DealtGroup
+pub mod Promising
+pub mod Keeping

@@ -1,25 +1,10 @@
--- A state's fields, and what contracts see of them.
-use Rattle.dn_world.specs.Parts.{PartsView}
-use Rattle.dn_world.specs.Sound.{IsSound}
-use Rattle.dn_world.specs.declared.state.State.TheInside.{Inside}
+-- A world's fields, and what contracts see of them.
+use Rattle.dn_world.specs.Run.{WorldView}
+use Rattle.dn_world.specs.Kept.{IsKept}
+use Rattle.dn_world.specs.declared.world.World.TheInside.{Inside}
 
-abbrev pub parts_of : Inside → PartsView
-parts_of s = record {
-  roster = s.payloads.roster;
-  group = s.group;
-  clients = s.clients.items;
-  servers = s.servers.items;
-  left = s.left.items;
-  payloads = s.payloads;
-  flight = s.flight;
-  chain = s.chain;
-  told = s.told.keys;
-  heard = s.heard.items;
-  delivered = s.delivered.keys;
-  accused = s.accused.entries;
-  auditor = s.auditor;
-}
+abbrev pub view_of : Inside → WorldView
+view_of s = record { spec = s.spec; corrupt = s.corrupt.items; roster = s.state.roster; history = s.history.items; spent = s.is_spent }
 
--- the servers are of the group, and what was heard was said in it
 abbrev pub Keeps : Inside → Type 0
-Keeps s = IsSound s.payloads.roster s.servers.items s.heard.items
+Keeps s = IsKept (view_of s) s.state

@@ -1,10 +1,10 @@
-use Rattle.std.proofs.Common.{subst, sym}
+use Rattle.std.proofs.Common.{rules, subst, sym}
 use Rattle.std.proofs.KnownBytes.{Keeps-refl}
 use Rattle.dn_io.specs.Task.{Ends}
 use Rattle.dn_io.proofs.EndLemmas.{not_read}
 use Rattle.dn_script.proofs.ScriptLaws.{script_spelled}
 use Rattle.dn_cmd.specs.Run.{script_task}
-use Rattle.dn_cmd.proofs.RunLemmas.{ends_plain, ends_group, refused}
+use Rattle.dn_cmd.proofs.RunLemmas.{ends_plain, ends_group, has_group, refused}
 use Rattle.dn_cmd.proofs.running.run.Goals as goal
 
 pub returns-in-Err : goal.returns-in-Err
@@ -25,8 +25,14 @@ plain_script-requires g c = (script_spelled c.deref.result.now c.in-Ok-parse_scr
 pub returns-in-Ok-None : goal.returns-in-Ok-None
 returns-in-Ok-None g c =
     let read = c.in-Ok.ensures.bytes in
-    ends_group _ _ c.run_group.result c.deref.result.now c.in-Ok.text.items c.in-Ok-parse_script.script c.in-Ok-None.field-0 c.deref.ensures.value
-    (record { within = read.0; taken = read.1; whole = read.2 }) c.in-Ok-parse_script.ensures c.in-Ok-None.ensures.plain c.in-Ok-None.field-0-is c.run_group.ensures
+    ends_group _ _ c.run_group.result c.deref.result.now c.in-Ok.text.items c.in-Ok-parse_script.script c.deref.ensures.value
+    (record { within = read.0; taken = read.1; whole = read.2 }) c.in-Ok-parse_script.ensures c.run_group.ensures
+
+pub run_group-requires : goal.run_group-requires
+run_group-requires g c = (
+  search rules,
+  has_group c.deref.result.now c.in-Ok-parse_script.script c.in-Ok-None.field-0 c.in-Ok-parse_script.ensures c.in-Ok-None.ensures.plain c.in-Ok-None.field-0-is,
+)
 
 pub returns-in-Ok-Some : goal.returns-in-Ok-Some
 returns-in-Ok-Some g c =

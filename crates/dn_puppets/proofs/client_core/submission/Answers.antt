@@ -1,4 +1,4 @@
-use Rattle.dn_world.proofs.Lengths.{submitted_within}
+use Rattle.dn_state.proofs.Lengths.{submitted_within}
 use Rattle.dn_puppets.proofs.SameClient.{submitted_same}
 use Rattle.dn_puppets.proofs.client_core.submission.Goals as goal
 

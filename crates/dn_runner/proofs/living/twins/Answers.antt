@@ -6,7 +6,7 @@ use Rattle.dn_runner.proofs.living.twins.Goals.{in-Some+in_ok-push, in_default}
 
 pub loop-j-preserved : goal.loop-j-preserved
 loop-j-preserved c =
-    let roster = dealt_roster c.args.run.now.group in
+    let roster = dealt_roster c.args.run.now.group.spec in
     elim c.match-twin.branch [
       | in-Some+in_ok-push w ↦
           let longer = ap (λ v. vec_len v) w.cores-is ∙ w.in_ok-push.ensures.len in

@@ -1,5 +1,5 @@
 use Rattle.std.proofs.Common.{rules, ◌≡◌, sym, subst, ◌∙◌}
-use Rattle.dn_world.specs.Sound.{IsOfGroup}
+use Rattle.dn_state.specs.Sound.{IsOfGroup}
 use Rattle.dn_puppets.proofs.puppets.Puppets.reach.Goals as goal
 
 pub invariant_of-self-in_default-take_puppet : goal.invariant_of-self-in_default-take_puppet

@@ -1,0 +1,4 @@
+pub mod Puts
+pub mod Shows
+pub mod Known
+pub mod Words

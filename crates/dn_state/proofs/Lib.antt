@@ -1,0 +1,12 @@
+pub mod Lengths
+pub mod CallLemmas
+pub mod ClientLemmas
+pub mod DeliverLemmas
+pub mod BeginLemmas
+pub mod AnswerLemmas
+pub mod CoreLemmas
+pub mod PuttingLemmas
+pub mod Sounds
+pub mod TellingLemmas
+pub mod VerdictLemmas
+pub mod WholeLemmas

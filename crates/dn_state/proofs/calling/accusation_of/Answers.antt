@@ -1,0 +1,26 @@
+use Rattle.std.proofs.Common.{rules, ◌≡◌, Some, None}
+use Rattle.dn_state.specs.Members.{core_at}
+use Rattle.dn_state.specs.Calling.{GivesAccusation}
+use Rattle.dn_state.proofs.ClientLemmas.{gives_accusation, takes_no_core, turns_by}
+use Rattle.dn_state.proofs.calling.accusation_of.Goals as goal
+
+pub returns-in_default : goal.returns-in_default
+returns-in_default c =
+    let cores = c.args.clients.now.items in
+    let i = c.args.client.0 in
+    let none : core_at cores i ≡ None = first_of (cc, search rules) in
+    takes_no_core cores c.take_client.new.clients.items i c.take_client.ensures.left none
+
+pub returns : goal.returns
+returns c =
+    let cores = c.args.clients.now.items in
+    let i = c.args.client.0 in
+    let r = c.args.r in
+    let k = c.args.k in
+    let before = c.in-Some.core in
+    let given = c.accuse-given.result in
+    let after = c.accuse-given.new.self in
+    let does = c.accuse-given.ensures in
+    let there : core_at cores i ≡ Some before = first_of (cc, search rules) in
+    turns_by cores c.take_client.new.clients.items i c.take_client.ensures.left c.put_client.new.clients.items (λ b a. GivesAccusation r k b given a) before after there c.put_client.ensures
+    (gives_accusation r k given before after does.accused does.refused does.same does.client)

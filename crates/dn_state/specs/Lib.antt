@@ -1,0 +1,16 @@
+pub mod Sound
+pub mod Parts
+pub mod Inside
+pub mod Words
+pub mod Putting
+pub mod Telling
+pub mod Verdicts
+pub mod Doing
+pub mod Members
+pub mod Acting
+pub mod Calling
+pub mod Delivering
+pub mod Steps
+pub mod Beginning
+pub mod Auditing
+pub mod Events

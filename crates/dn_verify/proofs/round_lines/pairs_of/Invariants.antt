@@ -1,0 +1,6 @@
+use Rattle.std.proofs.Common.{◌≡◌, map, take}
+use Rattle.dn_verify.specs.Telling.{pair_of}
+use Rattle.dn_verify.proofs.round_lines.pairs_of.Given as goal
+
+abbrev pub invariant-loop-listed : goal.invariant-loop-listed
+invariant-loop-listed l = l.pairs.items ≡ map pair_of (take l.listed-index l.listed-items)

@@ -1,4 +1,0 @@
-use Rattle.dn_world.proofs.calling.leave.Given as goal
-
-abbrev pub ghosts-drop_from : goal.ghosts-drop_from
-ghosts-drop_from a = record { name = a.blank.name; parts = a.blank.parts }

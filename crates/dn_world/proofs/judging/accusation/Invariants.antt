@@ -1,6 +1,0 @@
-use Rattle.std.proofs.Common.{take}
-use Rattle.dn_world.specs.Verdicts.{IsAccused}
-use Rattle.dn_world.proofs.judging.accusation.Given as goal
-
-abbrev pub invariant-loop-said : goal.invariant-loop-said
-invariant-loop-said l = ¬ IsAccused l.layout l.body l.k (take l.said-index l.heard)

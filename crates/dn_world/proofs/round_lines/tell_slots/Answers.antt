@@ -1,8 +1,0 @@
-use Rattle.dn_world.specs.Telling.{slot_lines}
-use Rattle.dn_world.proofs.TellingLemmas.{items_more}
-use Rattle.dn_world.proofs.round_lines.tell_slots.Goals as goal
-
-pub loop-slot-preserved : goal.loop-slot-preserved
-loop-slot-preserved c =
-    items_more (slot_lines c.args.r c.args.layout.now c.args.output.now) c.loop-slot.slot c.args.outcomes.now.items c.loop-slot.outcomes.items c.tell_slot.new.outcomes.items
-    c.loop-slot.invariant c.in_ok-tell_slot.ensures
